@@ -1,0 +1,3 @@
+-- The paper's "Table and blocks", and the classes of "Cuts and grouping".
+pub mod Blocks
+pub mod Classes

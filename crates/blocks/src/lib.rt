@@ -1,0 +1,1 @@
+// Blocks of a table, their differences, and the classes of every cut.

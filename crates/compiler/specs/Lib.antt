@@ -1,0 +1,5 @@
+-- The paper's "Cuts and grouping", and the operations Plan and Compile.
+pub mod Cascade
+pub mod Compile
+pub mod Groupings
+pub mod Plan

@@ -1,0 +1,35 @@
+// The least-cost grouping of a table's variables, and the image of its cells: Plan and Compile.
+
+// A cell of a plan.
+pub struct Cell {
+    pub group: usize,
+    pub incoming: usize,
+    pub outgoing: usize,
+    pub width: usize,
+    pub bits: usize,
+}
+
+// Plan's verdict: the number of cells and their memory bits.
+pub enum Verdict {
+    Grouping { cells: usize, bits: usize },
+    Refused(u8),
+}
+
+// Plan's answer: the verdict beside the sizes and the cells, which hold 0 past the last one.
+pub struct Planned {
+    pub verdict: Verdict,
+    pub sizes: [usize; 12],
+    pub cells: [Cell; 12],
+}
+
+// Compile's verdict: the image's length, the node count, the number of cells and their memory bits.
+pub enum Outcome {
+    Image { length: usize, nodes: usize, cells: usize, bits: usize },
+    Refused(u8),
+}
+
+// Compile's answer: the outcome beside Plan's cells. The image stands in the lent buffer.
+pub struct Compiled {
+    pub outcome: Outcome,
+    pub cells: [Cell; 12],
+}

@@ -1,0 +1,105 @@
+-- The paper's checked values P1 to P10: one list of data, under one theorem that computes through the definitions.
+use Prim.Native.Nat.{ℕ}
+use Prim.Native.String.{String}
+use mathlib.Core.Path.{_≡_, refl}
+use mathlib.Core.List.{List, [], _∷_, _++_, map, flatMap}
+use lib.ListN.{length}
+use lib.IntN.{ℤ, pos, negsuc, negℤ}
+use Rattle.numbers.specs.Answers.{Answer, accepted, refused, mapAnswer}
+use Rattle.numbers.specs.Lists.{range, every, keep, tally, sum, leastFrom, least}
+use Rattle.numbers.specs.Ranges.{mostVariables, widestAddress, isVariables, isLimit, within, isValue, eqZ}
+use Rattle.numbers.specs.Widths.{railWidth, holds, enough, weightWidth, cellBits}
+use Rattle.blocks.specs.Blocks.{block, blocks, first, lowerHalf, upperHalf, differences}
+use Rattle.blocks.specs.Classes.{same, numberIn, learn, learnAll, distinct, classes, classCount, classOf, railAt}
+use Rattle.diagram.specs.Records.{branches, kinds, recordsBelow, node, recordOf, recordsAt, records, recordNumbers, recordSize, offset, nodeCount}
+use Rattle.diagram.specs.Build.{ofTable, nodeRoom, build, Summary, buildAnswer}
+use Rattle.diagram.specs.Bound.{stepAt, isJump, jumps, risingKinds, nodeBound}
+use Rattle.image.specs.Bytes.{bigEndian, signedBytes, number, unsignedAt, signedAt}
+use Rattle.image.specs.Cells.{Cell, bitsOf, totalBits}
+use Rattle.image.specs.Commands.{commandBytes, wordCommand, cellCommands, cardCommands, imageOf}
+use Rattle.compiler.specs.Cascade.{wordOf, wordsOf, cellOf, cellsFrom, cardFor}
+use Rattle.compiler.specs.Groupings.{descending, closing, groupingsWithin, groupings, addressWidth, fitsFrom, fits, cost, cheapest, firstCheapest, chosen}
+use Rattle.compiler.specs.Plan.{plan}
+use Rattle.compiler.specs.Compile.{imageFor, compile}
+use Rattle.listing.specs.Text.{ascii, digits, decimal, fields, line}
+use Rattle.listing.specs.Listing.{imageRoom, tableOf, listed, nodeLine, nodeLines, cellLine, tableText, answerText, listing}
+
+-- What a case asks.
+data Question : Type 0 where
+  -- The listing of n, A and the values.
+  textOf : ℕ → ℕ → List ℤ → Question
+  -- Plan's cells and total bits for n, A and the values.
+  cellsOf : ℕ → ℕ → List ℤ → Question
+  -- The image for n, A, the values and a buffer of so many bytes.
+  imageIn : ℕ → ℕ → List ℤ → ℕ → Question
+  -- Build's node count for n and the values.
+  nodesOf : ℕ → List ℤ → Question
+  -- k and the node bound for n, the values, p and l.
+  boundOf : ℕ → List ℤ → ℕ → ℕ → Question
+
+cellNumbers : Cell → List ℤ
+cellNumbers cell = pos (cell .group) ∷ pos (cell .incoming) ∷ pos (cell .outgoing) ∷ pos (cell .width) ∷ pos (bitsOf cell) ∷ []
+
+planNumbers : List Cell → List ℤ
+planNumbers cells = flatMap cellNumbers cells ++ pos (totalBits cells) ∷ []
+
+-- A case's answer by the definitions, as numbers.
+answer : Question → Answer (List ℤ)
+answer (textOf n limit table) = accepted (map pos (listing (n ∷ limit ∷ flatMap signedBytes table)))
+answer (cellsOf n limit table) = mapAnswer (λ sizes. planNumbers (cellsFrom n table 0 sizes)) (plan n table limit)
+answer (imageIn n limit table room) = mapAnswer (λ sizes. map pos (imageFor n table sizes)) (compile n table limit room)
+answer (nodesOf n table) = mapAnswer (λ s. pos (s .nodes) ∷ []) (buildAnswer n table (nodeRoom n))
+answer (boundOf n table p l) = accepted (pos (jumps n table p) ∷ nodeBound n table p l ∷ [])
+
+record Case : Type 0 where
+  question : Question
+  expected : Answer (List ℤ)
+
+asks : Question → Answer (List ℤ) → Case
+asks question expected = record { question = question; expected = expected }
+
+numbers : List ℕ → Answer (List ℤ)
+numbers l = accepted (map pos l)
+
+text : String → Answer (List ℤ)
+text s = numbers (ascii s)
+
+-- The table of P1, P2, P3 and P10.
+figure : List ℤ
+figure = map pos (0 ∷ 0 ∷ 0 ∷ 0 ∷ 1 ∷ 1 ∷ 2 ∷ 3 ∷ 4 ∷ 4 ∷ 5 ∷ 6 ∷ 7 ∷ 7 ∷ 7 ∷ 7 ∷ [])
+
+-- The image of P4.
+smallImage : List ℕ
+smallImage =
+    0x56 ∷ 0x01 ∷ 0x00 ∷ 0x00 ∷ 0x00 ∷ 0x05 ∷ 0x43 ∷ 0x01 ∷ 0x00 ∷ 0x01 ∷ 0x00 ∷ 0x01 ∷ 0x03
+    ∷ 0x57 ∷ 0x00 ∷ 0x00 ∷ 0x00 ∷ 0x00 ∷ 0x00 ∷ 0x00 ∷ 0x57 ∷ 0x00 ∷ 0x00 ∷ 0x00 ∷ 0x00 ∷ 0x00 ∷ 0x03
+    ∷ 0x45 ∷ 0x00 ∷ 0x00 ∷ 0x00 ∷ 0x06 ∷ []
+
+cases : List Case
+cases =
+    -- P1
+    asks (textOf 4 4 figure)
+    (text "table 4 0\nnode 1 0 0 0 1\nnode 2 1 0 1 1\nnode 3 2 0 2 1\nnode 4 2 2 0 3\nnode 5 3 3 4 4\nnodes 6\ncell 2 1 2 4 20\ncell 1 2 2 2 12\ncell 1 2 1 2 8\nbits 40\n")
+    -- P2
+    ∷ asks (cellsOf 4 2 figure) (numbers (2 ∷ 1 ∷ 2 ∷ 4 ∷ 20 ∷ 1 ∷ 2 ∷ 2 ∷ 2 ∷ 12 ∷ 1 ∷ 2 ∷ 1 ∷ 2 ∷ 8 ∷ 40 ∷ []))
+    -- P3
+    ∷ asks (cellsOf 4 1 figure) (refused 9)
+    -- P4, with both buffer lengths
+    ∷ asks (imageIn 1 1 (pos 5 ∷ pos 8 ∷ []) 31) (refused 10)
+    ∷ asks (imageIn 1 1 (pos 5 ∷ pos 8 ∷ []) 32) (numbers smallImage)
+    -- P5 to P8
+    ∷ asks (cellsOf 1 1 (pos 3 ∷ pos 2 ∷ [])) (numbers (1 ∷ 1 ∷ 1 ∷ 1 ∷ 2 ∷ 2 ∷ []))
+    ∷ asks (cellsOf 1 1 (pos 2 ∷ pos 3 ∷ [])) (numbers (1 ∷ 1 ∷ 1 ∷ 2 ∷ 4 ∷ 4 ∷ []))
+    ∷ asks (cellsOf 1 1 (pos 4 ∷ pos 2 ∷ [])) (numbers (1 ∷ 1 ∷ 1 ∷ 2 ∷ 4 ∷ 4 ∷ []))
+    ∷ asks (cellsOf 1 1 (negℤ (pos 8388608) ∷ pos 8388607 ∷ [])) (numbers (1 ∷ 1 ∷ 1 ∷ 25 ∷ 50 ∷ 50 ∷ []))
+    -- P9
+    ∷ asks (cellsOf 2 2 (map pos (7 ∷ 7 ∷ 7 ∷ 7 ∷ []))) (numbers (2 ∷ 1 ∷ 1 ∷ 0 ∷ 0 ∷ 0 ∷ []))
+    ∷ asks (nodesOf 2 (map pos (7 ∷ 7 ∷ 7 ∷ 7 ∷ []))) (numbers (1 ∷ []))
+    -- P10
+    ∷ asks (boundOf 4 figure 1 1) (numbers (0 ∷ 9 ∷ []))
+    ∷ []
+
+-- Every case's answer is the paper's.
+checked-values : map (λ c. answer (c .question)) cases ≡ map (λ c. c .expected) cases
+unfolding cases asks answer numbers text figure smallImage cellNumbers planNumbers range every keep tally sum leastFrom least mostVariables widestAddress isVariables isLimit within isValue eqZ railWidth holds enough weightWidth cellBits block blocks first lowerHalf upperHalf differences same numberIn learn learnAll distinct classes classCount classOf railAt branches kinds recordsBelow node recordOf recordsAt records recordNumbers recordSize offset nodeCount ofTable nodeRoom build buildAnswer stepAt isJump jumps risingKinds nodeBound bigEndian signedBytes number unsignedAt signedAt bitsOf totalBits commandBytes wordCommand cellCommands cardCommands imageOf wordOf wordsOf cellOf cellsFrom cardFor descending closing groupingsWithin groupings addressWidth fitsFrom fits cost cheapest firstCheapest chosen plan imageFor compile ascii digits decimal fields line imageRoom tableOf listed nodeLine nodeLines cellLine tableText answerText listing flatMap
+checked-values = refl

@@ -1,0 +1,2 @@
+-- What the table compiler as a whole is trusted for, and the paper's checked values.
+pub mod CheckedList

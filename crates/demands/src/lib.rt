@@ -1,0 +1,1 @@
+// The demands and the checked list: theorems over the definitions of the crates below.

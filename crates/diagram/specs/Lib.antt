@@ -1,0 +1,5 @@
+-- The paper's "Diagram", the operations Build and Walk, and the node bound.
+pub mod Bound
+pub mod Build
+pub mod Records
+pub mod Walk

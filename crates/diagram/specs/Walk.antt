@@ -1,0 +1,87 @@
+-- Walk: its check of a record list, and the value on the path from the root. Any list that passes is walked.
+use Prim.Native.Nat.{ℕ, zero, suc, _+_, _-_, _*_, _/_, _%_, _^_}
+use mathlib.Core.Bool.{Bool, true, false, _&&_, _||_}
+use mathlib.Core.List.{List}
+use lib.ListN.{length, getD}
+use lib.Dec.{leb, ltb, eqb}
+use lib.IntN.{ℤ, pos, natAbs, _+ℤ_}
+use lib.Signed.{ltZ}
+use Rattle.numbers.specs.Answers.{Answer, accepted, refused, unless}
+use Rattle.numbers.specs.Lists.{range, every}
+use Rattle.numbers.specs.Ranges.{isVariables, isValue, isWeight, within, eqZ}
+use Rattle.diagram.specs.Records.{recordSize}
+use Rattle.diagram.specs.Build.{nodeRoom}
+use Rattle.diagram.specs.declared.Walked.{Walked}
+use Rattle.diagram.specs.declared.Walked.the-variants.{Value, Refused}
+
+-- Number c, from 0, of record k, from 1.
+unfoldable pub numberAt : List ℤ → ℕ → ℕ → ℤ
+numberAt list k c = getD list (recordSize * (k - 1) + c) (pos 0)
+
+unfoldable pub variableAt : List ℤ → ℕ → ℤ
+variableAt list k = numberAt list k 0
+
+unfoldable pub lowAt : List ℤ → ℕ → ℤ
+lowAt list k = numberAt list k 1
+
+unfoldable pub highAt : List ℤ → ℕ → ℤ
+highAt list k = numberAt list k 2
+
+unfoldable pub weightAt : List ℤ → ℕ → ℤ
+weightAt list k = numberAt list k 3
+
+-- A child of record k: node 0, or an earlier record of a lower variable.
+unfoldable pub childFits : List ℤ → ℕ → ℤ → Bool
+childFits list k child =
+    within (pos 0) (pos (k - 1)) child && (eqZ child (pos 0) || ltZ (variableAt list (natAbs child)) (variableAt list k))
+
+unfoldable pub recordFits : ℕ → List ℤ → ℕ → Bool
+recordFits n list k =
+    within (pos 0) (pos (n - 1)) (variableAt list k)
+    && childFits list k (lowAt list k)
+    && childFits list k (highAt list k)
+    && isWeight (weightAt list k)
+
+-- How many records a list of numbers has.
+unfoldable pub recordCount : List ℤ → ℕ
+recordCount list = length list / recordSize
+
+-- Walk's check of a record list, refusal 6 where it fails.
+unfoldable pub listFits : ℕ → List ℤ → Bool
+listFits n list =
+    eqb (length list % recordSize) 0 && leb (length list) (nodeRoom n) && every (recordFits n list) (range 1 (recordCount list))
+
+-- Bit i of X is 1.
+unfoldable pub bitSet : ℕ → ℕ → Bool
+bitSet x i = eqb (x / 2 ^ i % 2) 1
+
+-- The weights of the 1-edges on the path from node k down, with the variables below i still to be read.
+unfoldable pub pathWeight : List ℤ → ℕ → ℕ → ℕ → ℤ
+pathWeight list zero k x = pos 0
+pathWeight list (suc i) zero x = pos 0
+pathWeight list (suc i) (suc k) x =
+    elim (eqZ (variableAt list (suc k)) (pos i)) [
+      true ↦ elim (bitSet x i) [
+        true ↦ weightAt list (suc k) +ℤ pathWeight list i (natAbs (highAt list (suc k))) x
+      | false ↦ pathWeight list i (natAbs (lowAt list (suc k))) x
+      ]
+    | false ↦ pathWeight list i (suc k) x
+    ]
+
+-- The value at X: the offset and the path from the root, which is the last record, or node 0 where there is none.
+unfoldable pub walkValue : ℕ → ℤ → List ℤ → ℕ → ℤ
+walkValue n offset list x = offset +ℤ pathWeight list n (recordCount list) x
+
+-- Walk's answer: its checks in their order.
+unfoldable pub walk : ℕ → ℤ → List ℤ → ℕ → Answer ℤ
+walk n offset list x =
+    unless (isVariables n) 1
+    (unless (isValue offset) 5
+    (unless (listFits n list) 6
+    (unless (ltb x (2 ^ n)) 7
+    (accepted (walkValue n offset list x)))))
+
+-- The paper's answer that a value of the enum stands for.
+unfoldable pub walked : Walked → Answer ℤ
+walked (Value value) = accepted value
+walked (Refused number) = refused number

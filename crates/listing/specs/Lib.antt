@@ -1,0 +1,3 @@
+-- The paper's "Listing program".
+pub mod Listing
+pub mod Text

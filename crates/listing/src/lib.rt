@@ -1,0 +1,1 @@
+// The listing of a table: from the bytes of the input to the bytes of the text.

@@ -1,0 +1,5 @@
+-- Laws about the definitions of this crate, which proofs cite.
+pub mod Bools
+pub mod Least
+pub mod Powers
+pub mod Widths

@@ -1,0 +1,29 @@
+//! The ranges the paper sets for sizes, values and weights.
+
+/// The most variables, and also the widest address.
+const MOST: usize = 12;
+
+/// Is n a number of variables the paper admits?
+pub(crate) fn size(n: usize) -> bool {
+    (1..=MOST).contains(&n)
+}
+
+/// Is this an address width, or a limit on one, that the paper admits?
+pub(crate) fn address_width(width: usize) -> bool {
+    (1..=MOST).contains(&width)
+}
+
+/// Is this a value a table may hold, and so also an offset?
+pub(crate) fn value(value: i32) -> bool {
+    (-8_388_608..=8_388_607).contains(&value)
+}
+
+/// Is this a weight that two table values can differ by?
+pub(crate) fn weight(weight: i32) -> bool {
+    (-16_777_215..=16_777_215).contains(&weight)
+}
+
+/// The numbers in a buffer that holds the largest diagram of n variables.
+pub(crate) fn most_record_numbers(n: usize) -> usize {
+    4 * ((1 << n) - 1)
+}

@@ -1,0 +1,163 @@
+//! The definitions once more, in other ways: by maps of whole differences, by
+//! keys of low, high and weight, and by a dynamic programme over the cuts.
+
+use super::{Draft, DraftCell};
+use std::collections::HashMap;
+
+/// The class of every block at a cut, by a map of differences.
+pub fn classes(n: usize, table: &[i32], cut: usize) -> Vec<usize> {
+    let mut known: HashMap<Vec<i32>, usize> = HashMap::new();
+    let blocks = table.chunks(1 << (n - cut));
+    blocks
+        .map(|block| {
+            let differences = block.iter().map(|v| v - block[0]).collect();
+            let next = known.len();
+            *known.entry(differences).or_insert(next)
+        })
+        .collect()
+}
+
+/// The records, sharing by equal low, high and weight within a height.
+pub fn records(n: usize, table: &[i32]) -> Vec<i32> {
+    let mut records = Vec::new();
+    let mut below = vec![0; 1 << n];
+    for variable in 0..n {
+        let mut known: HashMap<(i32, i32, i32), i32> = HashMap::new();
+        let mut nodes = Vec::new();
+        for block in 0..1 << (n - variable - 1) {
+            let (low, high) = (below[2 * block], below[2 * block + 1]);
+            let first = block << (variable + 1);
+            let weight = table[first + (1 << variable)] - table[first];
+            if low == high && weight == 0 {
+                nodes.push(low);
+                continue;
+            }
+            let node = *known.entry((low, high, weight)).or_insert_with(|| {
+                records.extend([variable as i32, low, high, weight]);
+                records.len() as i32 / 4
+            });
+            nodes.push(node);
+        }
+        below = nodes;
+    }
+    records
+}
+
+/// The bits that tell a number of classes apart.
+pub fn rail(count: usize) -> usize {
+    count.next_power_of_two().trailing_zeros() as usize
+}
+
+/// The two's-complement width of one weight.
+pub fn width(weight: i32) -> usize {
+    match weight {
+        0 => 0,
+        w if w < 0 => 33 - (!w).leading_zeros() as usize,
+        w => 33 - w.leading_zeros() as usize,
+    }
+}
+
+/// A table's cuts, for costs and images.
+pub struct Cascade<'a> {
+    n: usize,
+    table: &'a [i32],
+    classes: Vec<Vec<usize>>,
+}
+
+impl<'a> Cascade<'a> {
+    pub fn new(n: usize, table: &'a [i32]) -> Self {
+        let classes = (0..=n).map(|cut| classes(n, table, cut)).collect();
+        Cascade { n, table, classes }
+    }
+
+    fn count(&self, cut: usize) -> usize {
+        self.classes[cut].iter().max().map_or(0, |most| most + 1)
+    }
+
+    fn address_width(&self, cut: usize, group: usize) -> usize {
+        rail(self.count(cut)) + group
+    }
+
+    /// The weight width, over the weights of every block and not one a class.
+    fn weight_width(&self, cut: usize, group: usize) -> usize {
+        let height = self.n - cut;
+        let step = 1 << (height - group);
+        let first = |x: usize| x >> height << height;
+        (0..1 << self.n)
+            .step_by(step)
+            .map(|x| width(self.table[x] - self.table[first(x)]))
+            .max()
+            .unwrap_or(0)
+    }
+
+    pub fn cost(&self, cut: usize, group: usize) -> usize {
+        let word = rail(self.count(cut + group)) + self.weight_width(cut, group);
+        (1 << self.address_width(cut, group)) * word
+    }
+
+    /// The costs of all cells, by cut and then group less 1.
+    pub fn costs(&self) -> Vec<Vec<usize>> {
+        let from = |cut| (1..=self.n - cut).map(|g| self.cost(cut, g)).collect();
+        (0..self.n).map(from).collect()
+    }
+
+    /// Least cost and sizes within a limit, from the last cut upwards. The
+    /// widest group is tried first, so an equal cost does not replace it.
+    pub fn chosen(&self, costs: &[Vec<usize>], limit: usize) -> Option<(usize, Vec<usize>)> {
+        let mut best: Vec<Option<(usize, Vec<usize>)>> = vec![None; self.n + 1];
+        best[self.n] = Some((0, Vec::new()));
+        for cut in (0..self.n).rev() {
+            for group in (1..=self.n - cut).rev() {
+                if self.address_width(cut, group) > limit {
+                    continue;
+                }
+                let Some((rest, sizes)) = best[cut + group].clone() else {
+                    continue;
+                };
+                let bits = rest + costs[cut][group - 1];
+                if best[cut].as_ref().is_none_or(|(least, _)| bits < *least) {
+                    best[cut] = Some((bits, [vec![group], sizes].concat()));
+                }
+            }
+        }
+        best[0].clone()
+    }
+
+    /// The image of a grouping.
+    pub fn draft(&self, sizes: &[usize]) -> Draft {
+        let mut cut = 0;
+        let mut bits = 0;
+        let mut cells = Vec::new();
+        for &group in sizes {
+            cells.push(self.draft_cell(cut, group));
+            bits += self.cost(cut, group) as u32;
+            cut += group;
+        }
+        Draft {
+            n: self.n as u8,
+            offset: self.table[0],
+            cells,
+            bits,
+        }
+    }
+
+    fn draft_cell(&self, cut: usize, group: usize) -> DraftCell {
+        let height = self.n - cut;
+        let mut words = vec![(0, 0); self.count(cut) << group];
+        // Blocks of one class write equal words, so the last may prevail.
+        for (sub_block, &class) in self.classes[cut + group].iter().enumerate() {
+            let block = sub_block >> group;
+            let value = sub_block & ((1 << group) - 1);
+            let weight = self.table[sub_block << (height - group)] - self.table[block << height];
+            let place = (self.classes[cut][block] << group) + value;
+            words[place] = (class as u16, weight);
+        }
+        DraftCell {
+            group: group as u8,
+            incoming: self.count(cut) as u16,
+            outgoing: self.count(cut + group) as u16,
+            width: self.weight_width(cut, group) as u8,
+            words,
+        }
+    }
+}

@@ -1,0 +1,122 @@
+//! Families of tables, structured and pseudo-random with fixed seeds.
+
+use super::{GREATEST, LEAST};
+use std::f64::consts::PI;
+
+/// A small generator of pseudo-random numbers (splitmix64).
+pub struct Random(pub u64);
+
+impl Random {
+    pub fn next(&mut self) -> u64 {
+        self.0 = self.0.wrapping_add(0x9E37_79B9_7F4A_7C15);
+        let mut z = self.0;
+        z = (z ^ (z >> 30)).wrapping_mul(0xBF58_476D_1CE4_E5B9);
+        z = (z ^ (z >> 27)).wrapping_mul(0x94D0_49BB_1331_11EB);
+        z ^ (z >> 31)
+    }
+
+    pub fn below(&mut self, bound: usize) -> usize {
+        (self.next() % bound as u64) as usize
+    }
+
+    /// A number from `least` to `greatest`.
+    pub fn between(&mut self, least: i32, greatest: i32) -> i32 {
+        least + self.below((greatest - least) as usize + 1) as i32
+    }
+}
+
+/// A table of f(X) for every X below 2^n.
+pub fn of(n: usize, f: impl FnMut(usize) -> i32) -> Vec<i32> {
+    (0..1 << n).map(f).collect()
+}
+
+/// The sum of the weights w(j) over the bits x(j) that are 1.
+pub fn weighted_sum(offset: i32, weights: &[i32]) -> Vec<i32> {
+    let bit = |x: usize, j: usize| (x >> j & 1) as i32;
+    of(weights.len(), |x| {
+        weights
+            .iter()
+            .enumerate()
+            .map(|(j, w)| w * bit(x, j))
+            .sum::<i32>()
+            + offset
+    })
+}
+
+/// Tables with a known shape, for every n from 1 to 12.
+pub fn structured(n: usize) -> Vec<Vec<i32>> {
+    let angle = |x: usize| 2.0 * PI * x as f64 / f64::from(1 << n);
+    let ascending: Vec<i32> = (0..n as i32).map(|j| j + 1).collect();
+    let signed: Vec<i32> = (0..n as i32)
+        .map(|j| (j * 37 - 150) * (1 - 2 * (j % 2)))
+        .collect();
+    vec![
+        of(n, |_| 0),
+        of(n, |_| LEAST),
+        of(n, |_| GREATEST),
+        of(n, |x| x as i32),
+        of(n, |x| -7 * x as i32 + 12_345),
+        of(n, |x| (x * x / 2) as i32 - 4_000_000),
+        of(n, |x| (x as f64).sqrt() as i32),
+        of(n, |x| (1_000.0 * (x as f64).sqrt()).round() as i32),
+        of(n, |x| (127.0 * angle(x).sin()).round() as i32),
+        of(n, |x| (8_388_607.0 * angle(x).sin()).round() as i32),
+        of(n, |x| if x % 2 == 0 { LEAST } else { GREATEST }),
+        of(n, |x| i32::from(x == (1 << n) - 1)),
+        of(n, |x| x.count_ones() as i32 % 2),
+        of(n, |x| (x % 5) as i32),
+        of(n, |x| ((x >> (n / 2)) * (x & ((1 << (n / 2)) - 1))) as i32),
+        weighted_sum(3, &ascending),
+        weighted_sum(-9, &signed),
+    ]
+}
+
+/// Pseudo-random tables, some with planted equal blocks.
+pub fn random(n: usize, random: &mut Random) -> Vec<i32> {
+    match random.below(6) {
+        0 => of(n, |_| random.between(LEAST, GREATEST)),
+        1 => of(n, |_| random.between(-2, 1)),
+        2 => of(n, |_| random.between(0, 1)),
+        3 => rising(n, random),
+        _ => planted(n, random),
+    }
+}
+
+/// A table that rises by small steps, with a few jumps.
+fn rising(n: usize, random: &mut Random) -> Vec<i32> {
+    let most = random.between(0, 3);
+    let mut value = random.between(-100, 100);
+    of(n, |_| {
+        let jump = random.below(40) == 0;
+        value += if jump {
+            random.between(-50, 50)
+        } else {
+            random.between(0, most)
+        };
+        value
+    })
+}
+
+/// A table built upwards: at each height blocks come from a small pool.
+fn planted(n: usize, random: &mut Random) -> Vec<i32> {
+    let mut pool: Vec<Vec<i32>> = vec![vec![0]];
+    for _ in 0..n {
+        let blocks = 1 + random.below(4);
+        pool = (0..blocks).map(|_| joined(&pool, random)).collect();
+    }
+    let shift = random.between(-1_000, 1_000);
+    pool[0].iter().map(|v| v + shift).collect()
+}
+
+/// Two blocks of the pool side by side, the upper one shifted, often by 0.
+fn joined(pool: &[Vec<i32>], random: &mut Random) -> Vec<i32> {
+    let mut block = pool[random.below(pool.len())].clone();
+    let upper = pool[random.below(pool.len())].clone();
+    let shift = match random.below(3) {
+        0 => 0,
+        1 => random.between(-4, 4),
+        _ => random.between(-90_000, 90_000),
+    };
+    block.extend(upper.iter().map(|v| v + shift));
+    block
+}

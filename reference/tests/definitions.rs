@@ -1,0 +1,177 @@
+//! Classes, widths and the bound, and the traps the paper names.
+
+mod common;
+
+use common::*;
+use panstrait_reference::*;
+use tables::Random;
+
+#[test]
+fn classes_of_the_figure() {
+    let expected: [&[usize]; 5] = [
+        &[0],
+        &[0, 1],
+        &[0, 1, 1, 0],
+        &[0, 0, 0, 1, 0, 1, 0, 0],
+        &[0; 16],
+    ];
+    for (cut, expected) in expected.iter().enumerate() {
+        assert_eq!(classes(4, &FIGURE, cut), *expected);
+    }
+}
+
+#[test]
+fn classes_by_a_map_of_differences() {
+    let mut random = Random(11);
+    for n in 1..=9 {
+        for _ in 0..30 {
+            let table = tables::random(n, &mut random);
+            for cut in 0..=n {
+                assert_eq!(classes(n, &table, cut), oracle::classes(n, &table, cut));
+            }
+        }
+    }
+}
+
+#[test]
+fn one_class_at_the_outer_cuts() {
+    for n in 1..=12 {
+        let table = tables::of(n, |x| (x * x) as i32);
+        assert_eq!(classes(n, &table, 0), [0]);
+        assert_eq!(classes(n, &table, n), vec![0; 1 << n]);
+    }
+}
+
+#[test]
+fn rail_widths() {
+    let expected = [(1, 0), (2, 1), (3, 2), (4, 2), (5, 3), (8, 3), (9, 4)];
+    for (count, width) in expected {
+        assert_eq!(rail_width(count), width);
+    }
+    for count in 1..=4096 {
+        let width = rail_width(count);
+        assert!(1 << width >= count);
+        assert!(width == 0 || 1 << (width - 1) < count);
+        assert_eq!(width, oracle::rail(count));
+    }
+    assert_eq!(rail_width(4096), 12);
+    assert_eq!(rail_width(4097), 13);
+    assert_eq!(rail_width(usize::MAX), usize::BITS as usize);
+}
+
+#[test]
+fn weight_widths() {
+    let expected = [
+        (0, 0),
+        (-1, 1),
+        (1, 2),
+        (-2, 2),
+        (2, 3),
+        (3, 3),
+        (-4, 3),
+        (4, 4),
+        (-5, 4),
+        (MOST_WEIGHT, 25),
+        (-MOST_WEIGHT, 25),
+        (i32::MAX, 32),
+        (i32::MIN, 32),
+    ];
+    for (weight, width) in expected {
+        assert_eq!(weight_width(&[weight]), width, "{weight}");
+        assert_eq!(weight_width(&[0, weight, 0]), width, "{weight}");
+    }
+    assert_eq!(weight_width(&[]), 0);
+    assert_eq!(weight_width(&[0, 0]), 0);
+    assert_eq!(weight_width(&[-2, 1]), 2);
+    assert_eq!(weight_width(&[-2, 2]), 3);
+}
+
+#[test]
+fn weight_widths_around_powers_of_two() {
+    for bit in 0..31 {
+        let power = 1_i64 << bit;
+        for near in power - 2..=power + 2 {
+            for weight in [near as i32, -near as i32] {
+                assert_eq!(weight_width(&[weight]), oracle::width(weight), "{weight}");
+            }
+        }
+    }
+}
+
+#[test]
+fn bounds_by_hand() {
+    // The figure has no fall; its rises over 0 are seven single steps.
+    assert_eq!(node_bound(4, &FIGURE, 0, 2), 4 + (1 + 1) + 6 * 2);
+    assert_eq!(node_bound(4, &FIGURE, 1, 2), 4 + (2 + 8) - 2);
+    assert_eq!(node_bound(4, &FIGURE, 2, 3), 2 + (3 + 27 + 2187) - 3);
+    assert_eq!(
+        node_bound(1, &[LEAST, GREATEST], 16_777_214, 1),
+        1 + 16_777_215
+    );
+    assert_eq!(node_bound(1, &[LEAST, GREATEST], 16_777_215, 1), 16_777_216);
+}
+
+#[test]
+fn every_adjacent_pair_counts() {
+    // One fall within a block of height 1, one between blocks, one rise of 2.
+    let table = [1, 0, 2, 1, 1, 1, 0, 0];
+    assert_eq!(node_bound(3, &table, 1, 1), 4 + 2 + 3);
+    assert_eq!(node_bound(3, &table, 2, 1), 4 + 3 + 2);
+}
+
+#[test]
+fn a_fall_is_a_jump_for_every_p() {
+    for p in [0, 1, 1 << 63, u64::MAX] {
+        assert_eq!(node_bound(1, &[1, 0], p, 1), 1 + i128::from(p) + 1);
+    }
+}
+
+#[test]
+fn bounds_beyond_the_numbers_saturate() {
+    let table = tables::of(12, |x| x as i32);
+    assert_eq!(node_bound(12, &table, 1, 12), i128::MAX);
+    assert_eq!(node_bound(12, &table, u64::MAX, 2), i128::MAX);
+    assert_eq!(node_bound(12, &table, u64::MAX, 1), 2048 + (1 << 64) - 1);
+    assert_eq!(node_bound(12, &table, 0, 12), 1 + 12 + 4094 * 12);
+}
+
+#[test]
+fn trap_equal_children_with_a_weight() {
+    let (answer, records) = built(2, &[0, 0, 5, 5]);
+    assert_eq!(records, [1, 0, 0, 5]);
+    assert_eq!(answer.nodes, 2);
+    let (_, records) = built(2, &[0, 1, 5, 6]);
+    assert_eq!(records, [0, 0, 0, 1, 1, 1, 1, 5]);
+}
+
+#[test]
+fn trap_blocks_share_by_differences() {
+    assert_eq!(classes(2, &[3, 4, 90, 91], 1), [0, 0]);
+    let (answer, _) = built(2, &[3, 4, 90, 91]);
+    assert_eq!(answer.nodes, 3);
+}
+
+#[test]
+fn trap_width_of_4() {
+    assert_eq!(weight_width(&[4]), 4);
+    assert_eq!(plan(1, &[0, 4], 1).unwrap().cells[0].width, 4);
+}
+
+#[test]
+fn equal_costs_take_the_wider_first_group() {
+    // One cell costs 4 * 3, two cost 2 * (1 + 1) + 4 * 2.
+    let table = [0, 1, -1, -3];
+    let planned = plan(2, &table, 2).unwrap();
+    assert_eq!(fields(&planned.cells), [[2, 1, 1, 3, 12]]);
+    for n in 1..=12 {
+        for limit in 1..=12 {
+            let planned = plan(n, &vec![-1; 1 << n], limit).unwrap();
+            let mut left = n;
+            for cell in &planned.cells {
+                assert_eq!(cell.group, left.min(limit));
+                left -= cell.group;
+            }
+            assert_eq!((left, planned.bits), (0, 0));
+        }
+    }
+}

@@ -1,0 +1,164 @@
+//! Every refusal of every operation, their order, and untouched buffers.
+
+mod common;
+
+use common::*;
+use panstrait_reference::*;
+
+const HUGE: [usize; 3] = [13, 64, usize::MAX];
+
+/// Build's refusal, with a node buffer that must stay as it was.
+fn build_refusal(n: usize, table: &[i32], buffer: usize) -> Refusal {
+    let mut nodes = vec![NUMBER; buffer];
+    let refusal = build(n, table, &mut nodes).expect_err("a refusal");
+    assert!(nodes.iter().all(|&v| v == NUMBER));
+    refusal
+}
+
+/// Compile's refusal, with an image buffer that must stay as it was.
+fn compile_refusal(n: usize, table: &[i32], limit: usize, buffer: usize) -> Refusal {
+    let mut image = vec![BYTE; buffer];
+    let refusal = compile(n, table, limit, &mut image).expect_err("a refusal");
+    assert!(image.iter().all(|&b| b == BYTE));
+    refusal
+}
+
+fn plan_refusal(n: usize, table: &[i32], limit: usize) -> Refusal {
+    plan(n, table, limit).expect_err("a refusal")
+}
+
+#[test]
+fn build_each() {
+    for n in [0].into_iter().chain(HUGE) {
+        assert_eq!(build_refusal(n, &FIGURE, 60), 1);
+    }
+    for length in [0, 1, 15, 17, 32] {
+        assert_eq!(build_refusal(4, &vec![0; length], 60), 2);
+    }
+    for value in [LEAST - 1, GREATEST + 1, i32::MIN, i32::MAX] {
+        for place in [0, 7, 15] {
+            let mut table = FIGURE;
+            table[place] = value;
+            assert_eq!(build_refusal(4, &table, 60), 3);
+        }
+    }
+    for buffer in [0, 20, 59] {
+        assert_eq!(build_refusal(4, &FIGURE, buffer), 4);
+    }
+    // The buffer is due whole even where the diagram has no record.
+    assert_eq!(build_refusal(4, &[7; 16], 59), 4);
+    assert_eq!(build_refusal(1, &[7; 2], 3), 4);
+}
+
+#[test]
+fn build_order() {
+    assert_eq!(build_refusal(0, &[i32::MAX; 3], 0), 1);
+    assert_eq!(build_refusal(13, &[i32::MAX; 3], 0), 1);
+    assert_eq!(build_refusal(2, &[i32::MAX; 3], 0), 2);
+    assert_eq!(build_refusal(2, &[i32::MAX; 4], 0), 3);
+    assert_eq!(build_refusal(2, &[0; 4], 0), 4);
+}
+
+#[test]
+fn plan_each() {
+    for n in [0].into_iter().chain(HUGE) {
+        assert_eq!(plan_refusal(n, &FIGURE, 4), 1);
+    }
+    assert_eq!(plan_refusal(4, &FIGURE[..15], 4), 2);
+    assert_eq!(plan_refusal(1, &[0, GREATEST + 1], 4), 3);
+    assert_eq!(plan_refusal(1, &[LEAST - 1, 0], 4), 3);
+    for limit in [0].into_iter().chain(HUGE) {
+        assert_eq!(plan_refusal(4, &FIGURE, limit), 8);
+    }
+    assert_eq!(plan_refusal(4, &FIGURE, 1), 9);
+}
+
+#[test]
+fn plan_order() {
+    assert_eq!(plan_refusal(0, &[i32::MAX; 3], 0), 1);
+    assert_eq!(plan_refusal(2, &[i32::MAX; 3], 0), 2);
+    assert_eq!(plan_refusal(2, &[i32::MAX; 4], 0), 3);
+    assert_eq!(plan_refusal(2, &[0, 0, 0, 1], 0), 8);
+    assert_eq!(plan_refusal(2, &[0, 0, 0, 1], 1), 9);
+}
+
+#[test]
+fn compile_each() {
+    for n in [0].into_iter().chain(HUGE) {
+        assert_eq!(compile_refusal(n, &FIGURE, 4, 200), 1);
+    }
+    assert_eq!(compile_refusal(4, &FIGURE[..15], 4, 200), 2);
+    assert_eq!(compile_refusal(1, &[0, GREATEST + 1], 4, 200), 3);
+    assert_eq!(compile_refusal(4, &FIGURE, 0, 200), 8);
+    assert_eq!(compile_refusal(4, &FIGURE, 13, 200), 8);
+    assert_eq!(compile_refusal(4, &FIGURE, 1, 200), 9);
+    let length = figure_draft().bytes().len();
+    for buffer in 0..length {
+        assert_eq!(compile_refusal(4, &FIGURE, 4, buffer), 10);
+    }
+    let mut image = vec![BYTE; length];
+    assert_eq!(compile(4, &FIGURE, 4, &mut image).unwrap().length, length);
+}
+
+#[test]
+fn compile_order() {
+    assert_eq!(compile_refusal(0, &[i32::MAX; 3], 0, 0), 1);
+    assert_eq!(compile_refusal(2, &[i32::MAX; 3], 0, 0), 2);
+    assert_eq!(compile_refusal(2, &[i32::MAX; 4], 0, 0), 3);
+    assert_eq!(compile_refusal(2, &[0, 0, 0, 1], 0, 0), 8);
+    assert_eq!(compile_refusal(2, &[0, 0, 0, 1], 1, 0), 9);
+    assert_eq!(compile_refusal(2, &[0, 0, 0, 1], 2, 0), 10);
+}
+
+#[test]
+fn run_and_expand_after_a_sound_image() {
+    let image = figure_draft().bytes();
+    for x in [16, 17, usize::MAX] {
+        assert_eq!(run(&image, x), Err(7));
+    }
+    for length in [0, 1, 15, 17, 32] {
+        let mut table = vec![NUMBER; length];
+        assert_eq!(expand(&image, &mut table), Err(2));
+        assert!(table.iter().all(|&v| v == NUMBER));
+    }
+    let mut table = [NUMBER; 16];
+    assert_eq!(expand(&image, &mut table), Ok(()));
+    assert_eq!(table, FIGURE);
+}
+
+#[test]
+fn image_refusals_come_before_x_and_table_length() {
+    let image = figure_draft().bytes();
+    let mut after = image.clone();
+    after.push(0x45);
+    let mut other = image.clone();
+    other[0] = 0x57;
+    let mut total = image.clone();
+    total[image.len() - 1] += 1;
+    let cases: [(&[u8], Refusal); 4] =
+        [(&image[..20], 11), (&other, 12), (&total, 13), (&after, 14)];
+    for (damaged, refusal) in cases {
+        assert_eq!(run(damaged, 0), Err(refusal));
+        assert_eq!(run(damaged, usize::MAX), Err(refusal));
+        for length in [3, 16] {
+            let mut table = vec![NUMBER; length];
+            assert_eq!(expand(damaged, &mut table), Err(refusal));
+            assert!(table.iter().all(|&v| v == NUMBER));
+        }
+    }
+}
+
+#[test]
+fn walk_order() {
+    let bad = [0, 0, 0];
+    assert_eq!(walk(0, i32::MAX, &bad, usize::MAX), Err(1));
+    assert_eq!(walk(usize::MAX, i32::MAX, &bad, usize::MAX), Err(1));
+    assert_eq!(walk(2, i32::MAX, &bad, usize::MAX), Err(5));
+    assert_eq!(walk(2, 0, &bad, usize::MAX), Err(6));
+    assert_eq!(walk(2, 0, &[], usize::MAX), Err(7));
+    assert_eq!(walk(2, 0, &[], 4), Err(7));
+    assert_eq!(walk(2, LEAST - 1, &[], 0), Err(5));
+    assert_eq!(walk(2, GREATEST + 1, &[], 0), Err(5));
+    assert_eq!(walk(2, LEAST, &[], 3), Ok(LEAST));
+    assert_eq!(walk(2, GREATEST, &[], 3), Ok(GREATEST));
+}

@@ -1,0 +1,189 @@
+//! Many tables through all six operations, and against the definitions.
+
+mod common;
+
+use common::oracle::Cascade;
+use common::tables::Random;
+use common::*;
+use panstrait_reference::*;
+
+/// Every X, or for large n a spread of them with both ends.
+fn inputs(n: usize) -> Vec<usize> {
+    let step = if n > 9 { 37 } else { 1 };
+    let mut inputs: Vec<usize> = (0..1 << n).step_by(step).collect();
+    inputs.push((1 << n) - 1);
+    inputs
+}
+
+fn check_diagram(n: usize, table: &[i32]) {
+    let (answer, records) = built(n, table);
+    assert_eq!(records, oracle::records(n, table));
+    assert_eq!(answer.offset, table[0]);
+    assert_eq!(answer.nodes, records.len() / 4 + 1);
+    for (x, &value) in table.iter().enumerate() {
+        assert_eq!(walk(n, answer.offset, &records, x), Ok(value));
+    }
+    for p in [0, 1, 2, 3, 7, 100, 1 << 24, u64::MAX] {
+        for l in 1..=n {
+            assert!(answer.nodes as i128 <= node_bound(n, table, p, l));
+        }
+    }
+}
+
+/// Plan and Compile against the dynamic programme, for every limit.
+fn check_groupings(n: usize, table: &[i32]) {
+    let cascade = Cascade::new(n, table);
+    let costs = cascade.costs();
+    let mut last = None;
+    for limit in 1..=12 {
+        let expected = cascade.chosen(&costs, limit);
+        let planned = plan(n, table, limit);
+        let Some((bits, sizes)) = expected.clone() else {
+            assert_eq!(planned, Err(9));
+            continue;
+        };
+        let planned = planned.expect("a grouping fits");
+        let groups: Vec<usize> = planned.cells.iter().map(|cell| cell.group).collect();
+        assert_eq!((planned.bits, &groups), (bits, &sizes));
+        if last != expected {
+            check_image(n, table, limit, &planned, cascade.draft(&sizes));
+            last = expected;
+        }
+    }
+    assert!(last.is_some(), "one cell always fits limit 12");
+}
+
+fn check_image(n: usize, table: &[i32], limit: usize, planned: &Planned, draft: Draft) {
+    let (answer, image) = compiled(n, table, limit).expect("a grouping fits");
+    assert!(image == draft.bytes());
+    assert_eq!(answer.length, image.len());
+    assert_eq!(&answer.plan, planned);
+    assert_eq!(answer.nodes, built(n, table).0.nodes);
+    let drafted = draft.cells.iter().zip(&planned.cells);
+    for (drafted, cell) in drafted {
+        assert_eq!(usize::from(drafted.incoming), cell.incoming);
+        assert_eq!(usize::from(drafted.outgoing), cell.outgoing);
+        assert_eq!(usize::from(drafted.width), cell.width);
+    }
+    let bits: usize = planned.cells.iter().map(|cell| cell.bits).sum();
+    assert_eq!(bits, planned.bits);
+    let mut expanded = vec![NUMBER; 1 << n];
+    assert_eq!(expand(&image, &mut expanded), Ok(()));
+    assert!(expanded == table);
+    for x in inputs(n) {
+        let (value, words) = (table[x], planned.cells.len());
+        assert_eq!(run(&image, x), Ok(Ran { value, words }));
+    }
+}
+
+fn check(n: usize, table: &[i32]) {
+    check_diagram(n, table);
+    check_groupings(n, table);
+}
+
+#[test]
+fn all_tables_of_one_and_two_variables_over_few_values() {
+    for code in 0..7 * 7 {
+        check(1, &[code % 7 - 3, code / 7 - 3]);
+    }
+    for code in 0..5 * 5 * 5 * 5 {
+        check(
+            2,
+            &[
+                code % 5 - 2,
+                code / 5 % 5 - 2,
+                code / 25 % 5 - 2,
+                code / 125 - 2,
+            ],
+        );
+    }
+}
+
+#[test]
+fn structured_tables() {
+    for n in 1..=12 {
+        for table in tables::structured(n) {
+            check(n, &table);
+        }
+    }
+}
+
+#[test]
+fn random_small_tables() {
+    let mut random = Random(1);
+    for n in 1..=7 {
+        for _ in 0..300 {
+            check(n, &tables::random(n, &mut random));
+        }
+    }
+}
+
+#[test]
+fn random_middling_tables() {
+    let mut random = Random(2);
+    for n in 8..=10 {
+        for _ in 0..40 {
+            check(n, &tables::random(n, &mut random));
+        }
+    }
+}
+
+#[test]
+fn random_large_tables() {
+    let mut random = Random(3);
+    for n in 11..=12 {
+        for _ in 0..20 {
+            check(n, &tables::random(n, &mut random));
+        }
+    }
+}
+
+#[test]
+fn the_longest_images_fit_the_listing_buffer() {
+    let mut random = Random(4);
+    let table = tables::of(12, |_| random.between(LEAST, GREATEST));
+    let printed = listing(&listing_input(12, 12, &table));
+    assert!(printed.starts_with(b"table 12 "));
+    let (answer, _) = compiled(12, &table, 12).unwrap();
+    assert!(printed.ends_with(format!("bits {}\n", answer.plan.bits).as_bytes()));
+}
+
+#[test]
+fn equal_costs_occur_and_are_settled() {
+    let mut random = Random(5);
+    let mut ties = 0;
+    for _ in 0..400 {
+        let n = 3 + random.below(3);
+        let table = tables::of(n, |_| random.between(-2, 1));
+        let cascade = Cascade::new(n, &table);
+        let costs = cascade.costs();
+        let Some((bits, sizes)) = cascade.chosen(&costs, 12) else {
+            continue;
+        };
+        let equals = groupings(n, &costs)
+            .into_iter()
+            .filter(|(cost, _)| *cost == bits);
+        let equals: Vec<Vec<usize>> = equals.map(|(_, sizes)| sizes).collect();
+        ties += usize::from(equals.len() > 1);
+        assert_eq!(equals.iter().max(), Some(&sizes));
+        let planned = plan(n, &table, 12).unwrap();
+        let groups: Vec<usize> = planned.cells.iter().map(|cell| cell.group).collect();
+        assert_eq!(groups, sizes);
+    }
+    assert!(ties > 0);
+}
+
+/// All groupings of the last variables with their costs, first groups first.
+fn groupings(n: usize, costs: &[Vec<usize>]) -> Vec<(usize, Vec<usize>)> {
+    let cut = costs.len() - n;
+    if n == 0 {
+        return vec![(0, Vec::new())];
+    }
+    let mut found = Vec::new();
+    for group in 1..=n {
+        for (cost, sizes) in groupings(n - group, costs) {
+            found.push((cost + costs[cut][group - 1], [vec![group], sizes].concat()));
+        }
+    }
+    found
+}

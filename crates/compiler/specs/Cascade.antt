@@ -21,12 +21,12 @@ wordsOf n table h g = flatMap (λ values. map (wordOf n table h g values) (range
 -- The cell from cut h to cut h + g.
 unfoldable pub cellOf : ℕ → List ℤ → ℕ → ℕ → Cell
 cellOf n table h g = record {
-    group = g;
-    incoming = classCount n table h;
-    outgoing = classCount n table (h + g);
-    width = weightWidth (map (λ word. word .weight) (wordsOf n table h g));
-    words = wordsOf n table h g
-  }
+  group = g;
+  incoming = classCount n table h;
+  outgoing = classCount n table (h + g);
+  width = weightWidth (map (λ word. word .weight) (wordsOf n table h g));
+  words = wordsOf n table h g;
+}
 
 -- The cells of a list of sizes, from cut h down.
 unfoldable pub cellsFrom : ℕ → List ℤ → ℕ → List ℕ → List Cell

@@ -21,8 +21,12 @@ plan n table limit = ofTable n table (unless (isLimit limit) 8 (chosen n table l
 -- A cell as Plan answers it.
 unfoldable pub planCell : Cell → PlanCell
 planCell cell = record {
-    group = cell .group; incoming = cell .incoming; outgoing = cell .outgoing; width = cell .width; bits = bitsOf cell
-  }
+  group = cell .group;
+  incoming = cell .incoming;
+  outgoing = cell .outgoing;
+  width = cell .width;
+  bits = bitsOf cell;
+}
 
 unfoldable pub noCell : PlanCell
 noCell = record { group = 0; incoming = 0; outgoing = 0; width = 0; bits = 0 }

@@ -24,7 +24,12 @@ pub struct Planned {
 
 // Compile's verdict: the image's length, the node count, the number of cells and their memory bits.
 pub enum Outcome {
-    Image { length: usize, nodes: usize, cells: usize, bits: usize },
+    Image {
+        length: usize,
+        nodes: usize,
+        cells: usize,
+        bits: usize,
+    },
     Refused(u8),
 }
 

@@ -36,11 +36,11 @@ pub record Record : Type 0 where
 -- The record of variable i of a block whose halves have height i.
 unfoldable pub recordOf : ℕ → List ℤ → ℕ → List ℤ → Record
 recordOf n table i values = record {
-    variable = i;
-    low = node n table i (lowerHalf i values);
-    high = node n table i (upperHalf i values);
-    weight = first (upperHalf i values) -ℤ first (lowerHalf i values)
-  }
+  variable = i;
+  low = node n table i (lowerHalf i values);
+  high = node n table i (upperHalf i values);
+  weight = first (upperHalf i values) -ℤ first (lowerHalf i values);
+}
 
 unfoldable pub recordsAt : ℕ → List ℤ → ℕ → List Record
 recordsAt n table i = map (recordOf n table i) (kinds n table i)

@@ -61,11 +61,11 @@ pathWeight list zero k x = pos 0
 pathWeight list (suc i) zero x = pos 0
 pathWeight list (suc i) (suc k) x =
     elim (eqZ (variableAt list (suc k)) (pos i)) [
-      true ↦ elim (bitSet x i) [
-        true ↦ weightAt list (suc k) +ℤ pathWeight list i (natAbs (highAt list (suc k))) x
-      | false ↦ pathWeight list i (natAbs (lowAt list (suc k))) x
+      | true ↦ elim (bitSet x i) [
+        | true ↦ weightAt list (suc k) +ℤ pathWeight list i (natAbs (highAt list (suc k))) x
+        | false ↦ pathWeight list i (natAbs (lowAt list (suc k))) x
       ]
-    | false ↦ pathWeight list i (suc k) x
+      | false ↦ pathWeight list i (suc k) x
     ]
 
 -- The value at X: the offset and the path from the root, which is the last record, or node 0 where there is none.

@@ -38,13 +38,13 @@ unfoldable pub collect : List Command → Collected
 collect [] = record { words = []; cells = [] }
 collect (commands.Table n offset ∷ rest) = collect rest
 collect (commands.Cell group incoming outgoing width ∷ rest) = record {
-    words = [];
-    cells = record { group = group; incoming = incoming; outgoing = outgoing; width = width; words = collect rest .words } ∷ collect rest .cells
-  }
+  words = [];
+  cells = record { group = group; incoming = incoming; outgoing = outgoing; width = width; words = collect rest .words } ∷ collect rest .cells;
+}
 collect (commands.Word class weight ∷ rest) = record {
-    words = record { class = class; weight = weight } ∷ collect rest .words;
-    cells = collect rest .cells
-  }
+  words = record { class = class; weight = weight } ∷ collect rest .words;
+  cells = collect rest .cells;
+}
 collect (commands.End bits ∷ rest) = collect rest
 
 -- The card that a list of commands describes, its table command first.

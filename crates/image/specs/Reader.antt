@@ -22,9 +22,9 @@ pub data Due : Type 0 where
 
 unfoldable pub due : Place → Due
 due p = elim (eqb (p .n) 0) [
-    true ↦ table
+  | true ↦ table
   | false ↦ elim (eqb (p .words) 0) [ false ↦ word | true ↦ elim (eqb (p .left) 0) [ false ↦ cell | true ↦ end ] ]
-  ]
+]
 
 unfoldable pub dueByte : Due → ℕ
 dueByte table = 0x56
@@ -72,20 +72,53 @@ greater a b = elim (leZ a b) [ true ↦ b | false ↦ a ]
 -- The place after a command.
 unfoldable pub placeAfter : Place → Command → Place
 placeAfter p (Table n offset) = record {
-    at = p .at + 6; n = n; left = n; classes = 1; words = 0; group = 0; width = 0; least = pos 0; greatest = pos 0; bits = 0
-  }
+  at = p .at + 6;
+  n = n;
+  left = n;
+  classes = 1;
+  words = 0;
+  group = 0;
+  width = 0;
+  least = pos 0;
+  greatest = pos 0;
+  bits = 0;
+}
 placeAfter p (Cell group incoming outgoing width) = record {
-    at = p .at + 7; n = p .n; left = p .left - group; classes = outgoing; words = incoming * 2 ^ group; group = group; width = width;
-    least = pos 0; greatest = pos 0; bits = p .bits + cellBits incoming group outgoing width
-  }
+  at = p .at + 7;
+  n = p .n;
+  left = p .left - group;
+  classes = outgoing;
+  words = incoming * 2 ^ group;
+  group = group;
+  width = width;
+  least = pos 0;
+  greatest = pos 0;
+  bits = p .bits + cellBits incoming group outgoing width;
+}
 placeAfter p (Word class weight) = record {
-    at = p .at + 7; n = p .n; left = p .left; classes = p .classes; words = p .words - 1; group = p .group; width = p .width;
-    least = lesser (p .least) weight; greatest = greater (p .greatest) weight; bits = p .bits
-  }
+  at = p .at + 7;
+  n = p .n;
+  left = p .left;
+  classes = p .classes;
+  words = p .words - 1;
+  group = p .group;
+  width = p .width;
+  least = lesser (p .least) weight;
+  greatest = greater (p .greatest) weight;
+  bits = p .bits;
+}
 placeAfter p (End bits) = record {
-    at = p .at + 5; n = p .n; left = p .left; classes = p .classes; words = p .words; group = p .group; width = p .width;
-    least = p .least; greatest = p .greatest; bits = p .bits
-  }
+  at = p .at + 5;
+  n = p .n;
+  left = p .left;
+  classes = p .classes;
+  words = p .words;
+  group = p .group;
+  width = p .width;
+  least = p .least;
+  greatest = p .greatest;
+  bits = p .bits;
+}
 
 -- After a cell's last word its width is the least that holds its weights, the least and the greatest among them.
 unfoldable pub widthIsLeast : Place → Bool

@@ -3,13 +3,26 @@
 // A command of the image with its operands.
 pub enum Command {
     // 0x56: variables and offset.
-    Table { n: usize, offset: i32 },
+    Table {
+        n: usize,
+        offset: i32,
+    },
     // 0x43: variables of the group, both class counts, weight width.
-    Cell { group: usize, incoming: usize, outgoing: usize, width: usize },
+    Cell {
+        group: usize,
+        incoming: usize,
+        outgoing: usize,
+        width: usize,
+    },
     // 0x57: outgoing class and weight.
-    Word { class: usize, weight: i32 },
+    Word {
+        class: usize,
+        weight: i32,
+    },
     // 0x45: total memory bits.
-    End { bits: usize },
+    End {
+        bits: usize,
+    },
 }
 
 // A place in the image, with what the commands before it leave to be judged.

@@ -1,11 +1,12 @@
 -- Laws of the list definitions: runs of numbers, tests over lists.
-use Prim.Native.Nat.{ℕ, zero, suc, _+_, _≤_, _<_}
-use mathlib.Core.Path.{_≡_, refl, sym, _∙_, ap}
+use Prim.Native.Nat.{ℕ, zero, suc, _+_, _-_, _≤_, _<_}
+use mathlib.Core.Path.{_≡_, refl, sym, _∙_, ap, ap₂}
 use mathlib.Core.Bool.{Bool, true, false, _&&_}
 use mathlib.Core.List.{List, [], _∷_, _++_, map}
 use native.Mathlib.Nat.{add-zero, add-suc, suc-add, zero-add}
 use native.Mathlib.Omega.{arith}
-use lib.ListN.{length, getD}
+use lib.ListN.{length, getD, take, drop}
+use lib.Seq.{take-nil, drop-nil}
 use Rattle.numbers.specs.Lists.{range, every, keep}
 use Rattle.numbers.specs.Laws.Bools.{both, and-both}
 
@@ -47,3 +48,31 @@ pub every-from : {A : Type 0} (test : A → Bool) (l : List A) (a : A) → ((j :
 unfolding every
 every-from test [] a h = refl
 every-from test (x ∷ l) a h = and-both (test x) (every test l) (h 0 (omega arith)) (every-from test l a (λ j k. h (suc j) (omega arith)))
+
+-- ---- parts of parts
+
+pub drop-take : {A : Type 0} (a b : ℕ) (l : List A) → drop a (take b l) ≡ take (b - a) (drop a l)
+drop-take zero b l = ap (λ n. take n l) (let e : b ≡ b - 0 = omega arith in e)
+drop-take (suc a) zero l = drop-nil (suc a) ∙ sym (ap (λ n. take n (drop (suc a) l)) (let e : 0 - suc a ≡ 0 = omega arith in e))
+drop-take (suc a) (suc b) [] = sym (take-nil (suc b - suc a))
+drop-take (suc a) (suc b) (x ∷ l) = drop-take a b l ∙ ap (λ n. take n (drop a l)) (let e : b - a ≡ suc b - suc a = omega arith in e)
+
+-- ---- mapped parts
+
+pub map-take : {A B : Type 0} (f : A → B) (n : ℕ) (l : List A) → map f (take n l) ≡ take n (map f l)
+map-take f zero l = refl
+map-take f (suc n) [] = refl
+map-take f (suc n) (x ∷ l) = ap (λ m. f x ∷ m) (map-take f n l)
+
+pub map-drop : {A B : Type 0} (f : A → B) (n : ℕ) (l : List A) → map f (drop n l) ≡ drop n (map f l)
+map-drop f zero l = refl
+map-drop f (suc n) [] = refl
+map-drop f (suc n) (x ∷ l) = map-drop f n l
+
+pub map-map : {A B C : Type 0} (f : A → B) (g : B → C) (l : List A) → map g (map f l) ≡ map (λ a. g (f a)) l
+map-map f g [] = refl
+map-map f g (x ∷ l) = ap (λ m. g (f x) ∷ m) (map-map f g l)
+
+pub map-same : {A B : Type 0} (f g : A → B) (l : List A) → ((a : A) → f a ≡ g a) → map f l ≡ map g l
+map-same f g [] h = refl
+map-same f g (x ∷ l) h = ap₂ (λ b m. b ∷ m) (h x) (map-same f g l h)

@@ -72,6 +72,6 @@ weight-width-least weights a h = least-le (λ a. every (holds a) weights) (enoug
 pub weight-width-zero : (weights : List ℤ) → (weightWidth weights ≡ 0) ↔ (every (λ z. eqZ z (pos 0)) weights ≡ true)
 unfolding holds
 weight-width-zero weights = (
-    (λ e. rw e at (weight-width-holds weights)),
-    (λ h. let w = weight-width-least weights 0 h in omega arith)
-  )
+  (λ e. rw e at (weight-width-holds weights)),
+  (λ h. let w = weight-width-least weights 0 h in omega arith),
+)

@@ -1,0 +1,6 @@
+-- Laws about the definitions of this crate, which proofs cite.
+pub mod Blocks
+pub mod Classes
+pub mod Differences
+pub mod Known
+pub mod Same

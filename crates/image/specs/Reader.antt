@@ -5,9 +5,8 @@ use mathlib.Core.List.{List, [], _∷_}
 use lib.ListN.{length, getD}
 use lib.Dec.{leb, ltb, eqb}
 use lib.IntN.{ℤ, pos}
-use lib.Signed.{leZ}
 use Rattle.numbers.specs.Answers.{Answer, accepted, refused, unless, mapAnswer, andThen}
-use Rattle.numbers.specs.Ranges.{isVariables, isValue, isWeight, eqZ, widestAddress}
+use Rattle.numbers.specs.Ranges.{isVariables, isValue, isWeight, eqZ, lesser, greater, widestAddress}
 use Rattle.numbers.specs.Widths.{railWidth, weightWidth, cellBits}
 use Rattle.image.specs.Bytes.{unsignedAt, signedAt}
 use Rattle.image.specs.declared.Command.{Command}
@@ -62,12 +61,6 @@ keepsRules p (Cell group incoming outgoing width) =
 keepsRules p (Word class weight) =
     ltb class (p .classes) && isWeight weight && (not (eqb (p .words % 2 ^ p .group) 0) || eqZ weight (pos 0))
 keepsRules p (End bits) = eqb bits (p .bits)
-
-unfoldable pub lesser : ℤ → ℤ → ℤ
-lesser a b = elim (leZ a b) [ true ↦ a | false ↦ b ]
-
-unfoldable pub greater : ℤ → ℤ → ℤ
-greater a b = elim (leZ a b) [ true ↦ b | false ↦ a ]
 
 -- The place after a command.
 unfoldable pub placeAfter : Place → Command → Place

@@ -1,7 +1,10 @@
 -- Laws about the definitions of this crate, which proofs cite.
+pub mod BitLength
 pub mod Bools
+pub mod Extremes
 pub mod Integers
 pub mod Least
 pub mod Lists
+pub mod Machine
 pub mod Powers
 pub mod Widths

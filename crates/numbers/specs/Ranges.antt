@@ -1,6 +1,7 @@
 -- The ranges of the paper: variables, address limits, values, weights. Integers are compared by tests that compute.
 use Prim.Native.Nat.{ℕ}
-use mathlib.Core.Bool.{Bool, true, false, _&&_}
+use mathlib.Core.Bool.{Bool, true, false, _&&_, cond}
+use mathlib.Core.List.{List, [], _∷_}
 use lib.Dec.{leb, eqb}
 use lib.IntN.{ℤ, pos, negsuc, negℤ}
 use lib.Signed.{leZ}
@@ -38,3 +39,19 @@ eqZ (pos a) (pos b) = eqb a b
 eqZ (pos a) (negsuc b) = false
 eqZ (negsuc a) (pos b) = false
 eqZ (negsuc a) (negsuc b) = eqb a b
+
+-- The lesser and the greater of two integers.
+unfoldable pub lesser : ℤ → ℤ → ℤ
+lesser a b = cond (leZ a b) a b
+
+unfoldable pub greater : ℤ → ℤ → ℤ
+greater a b = cond (leZ a b) b a
+
+-- The lesser of a number and all of a list; the greater likewise.
+unfoldable pub lowest : ℤ → List ℤ → ℤ
+lowest low [] = low
+lowest low (z ∷ more) = lowest (lesser low z) more
+
+unfoldable pub highest : ℤ → List ℤ → ℤ
+highest high [] = high
+highest high (z ∷ more) = highest (greater high z) more

@@ -1,1 +1,51 @@
 // Ranges and bit widths, and the laws of integers, lists and powers of two that every proof cites.
+ghost use mathlib.Core.Path.{_≡_};
+ghost use mathlib.Core.List.{[], _∷_};
+ghost use Prim.Native.Nat.{_≤_};
+ghost use lib.Signed.{mag};
+ghost use Rattle.numbers.specs.Widths.{bitLength, railWidth, weightWidth};
+
+// The number of bits of a magnitude.
+pub fn bit_length(magnitude: u32) -> usize
+    ensures { λ r. ⌜ r ≡ bitLength magnitude ⌝ }
+{
+    (32 - u32::leading_zeros(magnitude)) as usize
+}
+
+// The rail width of so many classes.
+pub fn rail_width(count: u32) -> usize
+    ensures { λ r. ⌜ r ≡ railWidth count ⌝ }
+{
+    if count == 0 {
+        return 0;
+    }
+    bit_length(count - 1)
+}
+
+// n both for n and for -(n + 1).
+pub fn magnitude(weight: i32) -> u32
+    ensures { λ r. ⌜ r ≡ mag weight ⌝ }
+{
+    if weight < 0 {
+        (-1 - weight) as u32
+    } else {
+        weight as u32
+    }
+}
+
+// The weight width of a cell, from its least and its greatest weight.
+pub fn weight_width(least: i32, greatest: i32) -> usize
+    ensures { λ r. ⌜ r ≡ weightWidth (least ∷ greatest ∷ []) ⌝ }
+{
+    let low = magnitude(least);
+    let high = magnitude(greatest);
+    if low < high {
+        return 1 + bit_length(high);
+    }
+    if least == 0 {
+        if greatest == 0 {
+            return 0;
+        }
+    }
+    1 + bit_length(low)
+}

@@ -1,0 +1,42 @@
+-- What two's complement holds: a number read back from its bits, its sign and its magnitude.
+use Prim.Native.Nat.{ℕ, suc, _-_, zero-le}
+use native.Mathlib.Omega.{arith}
+use borrow.Author.Tests.{le-ltb}
+use mathlib.Core.Path.{_≡_, refl, sym, _∙_, ap}
+use mathlib.Core.Bool.{Bool, true, false, false≢true, true≢false}
+use lib.Dec.{T}
+use lib.IntN.{ℤ, pos, negsuc, natAbs, _-ℤ_}
+use lib.Signed.{mag, ltZ, nonNeg}
+use mir.Syntax.{Width}
+use mir.Val.{Fits, SFits, ofZ, toZ}
+use mir.ValLaws.{half-full}
+use mir.Facts.{toZ-ofZ}
+
+-- -1 less a negative number is its magnitude.
+pub complement : (z : ℤ) → ltZ z (pos 0) ≡ true → negsuc 0 -ℤ z ≡ pos (mag z)
+complement (pos a) h = absurd (false≢true (sym (le-ltb a 0 zero-le) ∙ h))
+complement (negsuc a) h = rw (le-ltb (suc a) 1 (omega arith)) (ap pos (let e : suc a - 1 ≡ a = omega arith in e))
+
+-- A number that is not negative is its magnitude.
+pub not-negative : (z : ℤ) → ltZ z (pos 0) ≡ false → z ≡ pos (mag z)
+not-negative (pos a) h = refl
+not-negative (negsuc a) h = absurd (true≢false h)
+
+-- A magnitude within a signed width: it is held signed and unsigned, and is read back as it is.
+module _ (w : Width) (z : ℤ) (h : SFits w z) where
+  pub magnitude-signed : SFits w (pos (mag z))
+  magnitude-signed = record { sfits = h .sfits }
+
+  pub magnitude-back : toZ w (ofZ w (pos (mag z))) ≡ pos (mag z)
+  magnitude-back = toZ-ofZ magnitude-signed
+
+  pub magnitude-fits : Fits w (mag z)
+  magnitude-fits = record { fits = half-full w (h .sfits) }
+
+-- A number that is read back as some p, not negative, may be cast to an unsigned one.
+pub cast-back : (w : Width) (y : ℤ) (p : ℕ) → y ≡ pos p → Fits w p → T (nonNeg y) × Fits w (natAbs y)
+cast-back w y p e h = rw e (tt, h)
+
+-- Numbers with equal bits are equal.
+pub same-bits : (w : Width) (y z : ℤ) → SFits w y → SFits w z → ofZ w y ≡ ofZ w z → y ≡ z
+same-bits w y z hy hz e = sym (toZ-ofZ hy) ∙ ap (toZ w) e ∙ toZ-ofZ hz

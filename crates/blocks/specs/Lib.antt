@@ -2,3 +2,4 @@
 pub mod Blocks
 pub mod Classes
 pub mod Laws
+pub mod Layout

@@ -1,16 +1,17 @@
 -- What two's complement holds: a number read back from its bits, its sign and its magnitude.
-use Prim.Native.Nat.{ℕ, suc, _-_, zero-le}
+use Prim.Native.Nat.{ℕ, zero, suc, _+_, _-_, _^_, _≤_, _<_, zero-le}
 use native.Mathlib.Omega.{arith}
 use borrow.Author.Tests.{le-ltb}
 use mathlib.Core.Path.{_≡_, refl, sym, _∙_, ap}
 use mathlib.Core.Bool.{Bool, true, false, false≢true, true≢false}
-use lib.Dec.{T}
-use lib.IntN.{ℤ, pos, negsuc, natAbs, _-ℤ_}
+use lib.Dec.{T, ltb}
+use lib.IntN.{ℤ, pos, negsuc, negℤ, natAbs, subℕ, _+ℤ_, _-ℤ_}
 use lib.Signed.{mag, ltZ, nonNeg}
-use mir.Syntax.{Width}
+use mir.Syntax.{Width, w32, w64}
 use mir.Val.{Fits, SFits, ofZ, toZ}
 use mir.ValLaws.{half-full}
-use mir.Facts.{toZ-ofZ}
+use mir.Facts.{toZ-ofZ, sfits-widen}
+use Rattle.numbers.specs.Laws.Bools.{yes-or-no}
 
 -- -1 less a negative number is its magnitude.
 pub complement : (z : ℤ) → ltZ z (pos 0) ≡ true → negsuc 0 -ℤ z ≡ pos (mag z)
@@ -40,3 +41,31 @@ cast-back w y p e h = rw e (tt, h)
 -- Numbers with equal bits are equal.
 pub same-bits : (w : Width) (y z : ℤ) → SFits w y → SFits w z → ofZ w y ≡ ofZ w z → y ≡ z
 same-bits w y z hy hz e = sym (toZ-ofZ hy) ∙ ap (toZ w) e ∙ toZ-ofZ hz
+
+-- ---- sums and differences
+
+mag-subℕ : (a b : ℕ) → mag (subℕ a b) ≤ a + b
+mag-subℕ a b =
+    yes-or-no (ltb a b)
+    (λ e. rw e (let p : b - suc a ≤ a + b = omega arith in p))
+    (λ e. rw e (let p : a - b ≤ a + b = omega arith in p))
+
+pub mag-add : (a b : ℤ) → mag (a +ℤ b) ≤ mag a + mag b + 1
+mag-add (pos a) (pos b) = omega arith
+mag-add (pos a) (negsuc b) = let p = mag-subℕ a (suc b) in omega arith
+mag-add (negsuc a) (pos b) = let p = mag-subℕ b (suc a) in omega arith
+mag-add (negsuc a) (negsuc b) = omega arith
+
+pub mag-neg : (b : ℤ) → mag (negℤ b) ≤ mag b + 1
+mag-neg (pos zero) = omega arith
+mag-neg (pos (suc b)) = omega arith
+mag-neg (negsuc b) = omega arith
+
+-- The difference of two numbers of 32 bits fits 64.
+pub difference-fits : (a b : ℤ) → SFits w32 a → SFits w32 b → SFits w64 (a -ℤ b)
+difference-fits a b ha hb =
+    record { sfits = (let p = mag-add a (negℤ b) in let q = mag-neg b in let r = ha .sfits in let s = hb .sfits in let t : mag (a -ℤ b) < 2 ^ 63 = omega arith in t) }
+
+-- A number of 32 bits fits 64.
+pub wider : {z : ℤ} → SFits w32 z → SFits w64 z
+wider h = sfits-widen {w = w32} {w′ = w64} tt h

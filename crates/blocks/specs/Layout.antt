@@ -1,0 +1,46 @@
+-- How the classes of all cuts lie in arrays: cut after cut, block j of cut h at place 2^h - 1 + j.
+use Prim.Native.Nat.{ℕ, suc, _-_, _*_, _^_}
+use mathlib.Core.List.{List, map, flatMap}
+use lib.ListN.{take, drop}
+use lib.IntN.{ℤ, _-ℤ_}
+use Rattle.numbers.specs.Lists.{range, padded}
+use Rattle.blocks.specs.Blocks.{blocks, differences}
+use Rattle.blocks.specs.Classes.{numberIn, distinct, classes, classCount, classOf}
+
+-- Values less a constant.
+unfoldable pub less : ℤ → List ℤ → List ℤ
+less constant values = map (λ v. v -ℤ constant) values
+
+-- Part j of so many values.
+unfoldable pub part : List ℤ → ℕ → ℕ → List ℤ
+part table size j = take size (drop (j * size) table)
+
+-- The differences of parts, given by their numbers.
+unfoldable pub partDifferences : List ℤ → ℕ → List ℕ → List (List ℤ)
+partDifferences table size parts = map (λ j. differences (part table size j)) parts
+
+-- The number of each list among the different ones, left to right.
+unfoldable pub numbersOf : List (List ℤ) → List ℕ
+numbersOf ds = map (numberIn (distinct ds)) ds
+
+-- For each different list the place where it appears first, and 0 past the last.
+unfoldable pub firstsOf : ℕ → List (List ℤ) → List ℕ
+firstsOf places ds = padded places 0 (map (numberIn ds) (distinct ds))
+
+-- The class of each block of cut h, left to right.
+unfoldable pub cutNumbers : ℕ → List ℤ → ℕ → List ℕ
+cutNumbers n table h = numbersOf (map differences (blocks n table (n - h)))
+
+-- The first block of each class of cut h, and 0 past the last class.
+unfoldable pub cutFirsts : ℕ → List ℤ → ℕ → List ℕ
+cutFirsts n table h = firstsOf (2 ^ h) (map differences (blocks n table (n - h)))
+
+-- All cuts, from cut 0 to cut n.
+unfoldable pub allNumbers : ℕ → List ℤ → List ℕ
+allNumbers n table = flatMap (cutNumbers n table) (range 0 (suc n))
+
+unfoldable pub allFirsts : ℕ → List ℤ → List ℕ
+allFirsts n table = flatMap (cutFirsts n table) (range 0 (suc n))
+
+unfoldable pub allCounts : ℕ → List ℤ → List ℕ
+allCounts n table = map (classCount n table) (range 0 (suc n))

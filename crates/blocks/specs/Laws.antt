@@ -5,3 +5,4 @@ pub mod Comparing
 pub mod Differences
 pub mod Known
 pub mod Same
+pub mod Searching

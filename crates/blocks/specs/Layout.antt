@@ -1,7 +1,9 @@
 -- How the classes of all cuts lie in arrays: cut after cut, block j of cut h at place 2^h - 1 + j.
-use Prim.Native.Nat.{ℕ, suc, _-_, _*_, _^_}
+use Prim.Native.Nat.{ℕ, suc, _+_, _-_, _*_, _^_, _≤_, _<_}
+use mathlib.Core.Bool.{cond}
 use mathlib.Core.List.{List, map, flatMap}
-use lib.ListN.{take, drop}
+use lib.ListN.{length, getD, take, drop, set}
+use lib.Dec.{eqb}
 use lib.IntN.{ℤ, _-ℤ_}
 use Rattle.numbers.specs.Lists.{range, padded}
 use Rattle.blocks.specs.Blocks.{blocks, differences}
@@ -18,6 +20,18 @@ part table size j = take size (drop (j * size) table)
 -- The differences of parts, given by their numbers.
 unfoldable pub partDifferences : List ℤ → ℕ → List ℕ → List (List ℤ)
 partDifferences table size parts = map (λ j. differences (part table size j)) parts
+
+-- Each of these parts lies within the table.
+pub record PartsWithin (table : List ℤ) (size : ℕ) (parts : List ℕ) : Type 0 where
+  pub within : (k : ℕ) → k < length parts → getD parts k 0 * size + size ≤ length table
+
+-- The known classes after a block of this class, which is new where it is their count.
+unfoldable pub countNoted : ℕ → ℕ → ℕ
+countNoted count class = cond (eqb class count) (count + 1) count
+
+-- The row of first blocks with a place for block j, and j behind the others where its class is new.
+unfoldable pub firstsNoted : List ℕ → ℕ → ℕ → ℕ → List ℕ
+firstsNoted firsts count j class = cond (eqb class count) (set (set firsts j 0) count j) (set firsts j 0)
 
 -- The number of each list among the different ones, left to right.
 unfoldable pub numbersOf : List (List ℤ) → List ℕ

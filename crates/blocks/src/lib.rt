@@ -4,9 +4,9 @@ ghost use mathlib.Core.List.{map};
 ghost use Prim.Native.Nat.{ℕ, _+_, _*_, _≤_, _<_};
 ghost use lib.ListN.{length, getD};
 ghost use lib.IntN.{pos, _-ℤ_};
-ghost use Rattle.blocks.specs.Blocks.{differences};
+ghost use Rattle.blocks.specs.Blocks.{first, differences};
 ghost use Rattle.blocks.specs.Classes.{same, numberIn};
-ghost use Rattle.blocks.specs.Layout.{less, partDifferences};
+ghost use Rattle.blocks.specs.Layout.{less, part, partDifferences, PartsWithin, countNoted, firstsNoted};
 
 // A value less a constant, in a width that holds any such difference.
 fn difference(values: &[i32], x: usize, constant: i32) -> i64
@@ -33,4 +33,69 @@ fn same_less(left: &[i32], from_left: i32, right: &[i32], from_right: i32) -> bo
         x += 1;
     }
     true
+}
+
+// Whether two blocks are equal value by value.
+pub fn same_values(left: &[i32], right: &[i32]) -> bool
+    ensures { λ r. ⌜ r ≡ same (now (left .entry)) (now (right .entry)) ⌝ }
+{
+    same_less(left, 0, right, 0)
+}
+
+// The first of some values, or 0 where there is none.
+pub fn first_value(values: &[i32]) -> i32
+    ensures { λ r. ⌜ r ≡ first (now (values .entry)) ⌝ }
+{
+    if values.len() == 0 {
+        return 0;
+    }
+    values[0]
+}
+
+// Whether two blocks have equal differences.
+pub fn same_differences(left: &[i32], right: &[i32]) -> bool
+    ensures { λ r. ⌜ r ≡ same (differences (now (left .entry))) (differences (now (right .entry))) ⌝ }
+{
+    same_less(left, first_value(left), right, first_value(right))
+}
+
+// Whether part j of a table has the differences of these values.
+fn same_part(table: &[i32], size: usize, j: usize, values: &[i32]) -> bool
+    requires { ⌜ j * size + size ≤ length (now table) ⌝ }
+    ensures { λ r. ⌜ r ≡ same (differences (part (now (table .entry)) size j)) (differences (now (values .entry))) ⌝ }
+{
+    let start = j * size;
+    let end = start + size;
+    same_differences(&table[start..end], values)
+}
+
+// The class of a block among the known ones, each given by its first block; where none is equal, the next new number.
+fn find_class(table: &[i32], size: usize, firsts: &[usize], values: &[i32]) -> usize
+    requires { ⌜ PartsWithin (now table) size (now firsts) ⌝ }
+    ensures { λ r. ⌜ r ≡ numberIn (partDifferences (now (table .entry)) size (now (firsts .entry))) (differences (now (values .entry))) ⌝ }
+{
+    let mut k = 0;
+    let class = loop {
+        if k == firsts.len() {
+            break k;
+        }
+        if same_part(table, size, firsts[k], values) {
+            break k;
+        }
+        k += 1;
+    };
+    class
+}
+
+// The first block of a new class is noted behind those known, in a row of one place for each block so far.
+fn note_first(firsts: &mut [usize], count: usize, j: usize, class: usize) -> usize
+    requires { ⌜ (count ≤ j) × (j < length (now firsts)) ⌝ }
+    ensures { λ r. ⌜ (r ≡ countNoted count class) × (now (firsts .exit) ≡ firstsNoted (now (firsts .entry)) count j class) ⌝ }
+{
+    firsts[j] = 0;
+    if class == count {
+        firsts[count] = j;
+        return count + 1;
+    }
+    count
 }

@@ -110,7 +110,7 @@ loop-again c =
       alike = c .before .before .before .before .loop .inv .alike;
       decides =
           c .before .before .before .before .loop .inv .decides
-          ∙ equal-here (lefts (start d)) (rights (start d)) (x d) (in-left d) (in-right d) (sym (is-left d) ∙ bits ∙ is-right d)
+          ∙ equal-here (lefts (start d)) (rights (start d)) (x d) (in-left d) (in-right d) (sym (is-left d) ∙ bits ∙ is-right d);
     }
 
 returns-3 : tie.Need-returns-3 Inv-loop μ-loop
@@ -121,8 +121,8 @@ returns-3 c =
     (constants (s .args .left .now) (s .args .right .now) (s .args .from-left) (s .args .from-right) (s .fits .from-left) (s .fits .from-right)
     ∙ i .decides
     ∙ all-equal (less (toZ w32 (ofZ w32 (s .args .from-left))) (s .args .left .now)) (less (toZ w32 (ofZ w32 (s .args .from-right))) (s .args .right .now)) (c .before .loop .x)
-      (rw length-less (let w = i .within in let l = c .loop-test .left in omega arith))
-      (rw (length-less, length-less) (i .alike)))
+    (rw length-less (let w = i .within in let l = c .loop-test .left in omega arith))
+    (rw (length-less, length-less) (i .alike)))
 
 pub same-less-spec : {M : Type 1} → statement M
 same-less-spec =

@@ -1,0 +1,16 @@
+-- `blocks::same_values` meets its contract: nothing is taken from the values. Assumes nothing.
+use mathlib.Core.Path.{_≡_, _∙_, ap₂}
+use borrow.Author.Needs.{needs}
+use Rattle.blocks.specs.Classes.{same}
+use Rattle.blocks.specs.Laws.Comparing.{less-nothing}
+use Rattle.blocks.proofs.same_values.Statement.{statement}
+use Rattle.blocks.proofs.same_values.Tie as tie
+
+same-less-requires : tie.Need-same-less-requires
+same-less-requires c κs = search needs
+
+returns : tie.Need-returns
+returns c = c .same-less .ensures ∙ ap₂ same (less-nothing (c .before .args .left .now)) (less-nothing (c .before .args .right .now))
+
+pub same-values-spec : {M : Type 1} → statement M
+same-values-spec = tie.close (tie.spec same-less-requires returns)

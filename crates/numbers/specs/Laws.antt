@@ -3,5 +3,7 @@ pub mod Bools
 pub mod Integers
 pub mod Least
 pub mod Lists
+pub mod Order
 pub mod Powers
+pub mod Tallies
 pub mod Widths

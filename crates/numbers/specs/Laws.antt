@@ -6,5 +6,7 @@ pub mod Integers
 pub mod Least
 pub mod Lists
 pub mod Machine
+pub mod Order
 pub mod Powers
+pub mod Tallies
 pub mod Widths

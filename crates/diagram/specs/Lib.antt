@@ -3,7 +3,6 @@ pub mod Bound
 pub mod Branching
 pub mod Build
 pub mod Counting
-pub mod Jumps
 pub mod NodeBound
 pub mod Records
 pub mod Walk

@@ -1,6 +1,7 @@
 -- Laws about the definitions of this crate, which proofs cite.
 pub mod Blocks
 pub mod Classes
+pub mod Classing
 pub mod Comparing
 pub mod Differences
 pub mod Known

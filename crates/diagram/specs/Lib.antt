@@ -1,5 +1,7 @@
 -- The paper's "Diagram", the operations Build and Walk, and the node bound.
+pub mod Accepted
 pub mod Bound
 pub mod Build
+pub mod Laws
 pub mod Records
 pub mod Walk

@@ -1,7 +1,9 @@
 -- Laws about the definitions of this crate, which proofs cite.
 pub mod Bools
+pub mod Bounds
 pub mod Integers
 pub mod Least
 pub mod Lists
 pub mod Powers
+pub mod Selections
 pub mod Widths

@@ -1,7 +1,8 @@
--- The paper's "Diagram", the operations Build and Walk, and the node bound.
+-- The paper's "Diagram", the operations Build and Walk, and the node bound. Theorems has what the demands ask of them.
 pub mod Accepted
 pub mod Bound
 pub mod Build
 pub mod Laws
 pub mod Records
+pub mod Theorems
 pub mod Walk

@@ -1,6 +1,6 @@
 -- Lists that are blocks of a table up to a constant, and their halves.
-use Prim.Native.Nat.{ℕ, zero, suc, _+_, _-_, _*_, _/_, _%_, _^_, _≤_, _<_}
-use mathlib.Core.Path.{_≡_, refl, sym, _∙_, ap, ap₂}
+use Prim.Native.Nat.{ℕ, suc, _+_, _-_, _*_, _^_, _≤_, _<_}
+use mathlib.Core.Path.{_≡_, refl, sym, _∙_, ap}
 use mathlib.Core.List.{List, []}
 use native.Mathlib.Nat.{two-pow-succ, zero-mul, zero-add}
 use native.Mathlib.Numerals.{one-add}
@@ -9,11 +9,11 @@ use lib.ListN.{length, getD, take, drop}
 use lib.Seq.{take-all}
 use lib.Dec.{lit<}
 use lib.Pow.{pow-pos}
-use lib.IntN.{ℤ, pos}
+use lib.IntN.{ℤ}
 use Rattle.numbers.specs.Lists.{range}
 use Rattle.numbers.specs.Laws.Lists.{length-range, getD-range, getD-map}
 use Rattle.numbers.specs.Laws.Powers.{power-split, part-room}
-use Rattle.blocks.specs.Blocks.{block, blocks, first, lowerHalf, upperHalf, differences}
+use Rattle.blocks.specs.Blocks.{block, blocks, lowerHalf, upperHalf, differences}
 use Rattle.blocks.specs.Laws.Blocks.{block-length, block-in-block, lower-half-block, upper-half-block}
 use Rattle.blocks.specs.Laws.Differences.{differences-again, same-length}
 use Rattle.diagram.specs.Laws.Shifts.{same-lower, same-upper}

@@ -13,12 +13,11 @@ use Rattle.numbers.specs.Lists.{range}
 use Rattle.numbers.specs.Laws.Integers.{sub-sub-same}
 use Rattle.numbers.specs.Laws.Lists.{range-suc, getD-map, map-take, map-drop}
 use Rattle.numbers.specs.Laws.Selections.{flatMap-append, length-flatMap, getD-flatMap, range-add}
-use Rattle.blocks.specs.Blocks.{block, first, lowerHalf, upperHalf, differences}
+use Rattle.blocks.specs.Blocks.{first, lowerHalf, upperHalf, differences}
 use Rattle.diagram.specs.Records.{kinds, recordsBelow, node, Record, recordOf, recordsAt, records, recordNumbers, recordSize}
-use Rattle.diagram.specs.Build.{nodeRoom}
 use Rattle.diagram.specs.Walk.{numberAt, variableAt, lowAt, highAt, weightAt, recordCount}
 use Rattle.diagram.specs.Accepted.{written}
-use Rattle.diagram.specs.Laws.Alike.{BlockLike, like-length, twice-blocks}
+use Rattle.diagram.specs.Laws.Alike.{twice-blocks}
 use Rattle.diagram.specs.Laws.Nodes.{same-node, kinds-le}
 use Rattle.diagram.specs.Laws.Shifts.{lower-differences, upper-differences}
 

@@ -1,30 +1,29 @@
 -- Paths: the weights on the path from a block's node are the block's differences.
-use Prim.Native.Nat.{ℕ, zero, suc, _+_, _-_, _*_, _/_, _%_, _^_, _≤_, _<_}
+use Prim.Native.Nat.{ℕ, zero, suc, _+_, _*_, _/_, _%_, _^_, _≤_, _<_}
 use mathlib.Core.Path.{_≡_, refl, sym, _∙_, ap, ap₂}
-use mathlib.Core.Bool.{Bool, true, false}
-use mathlib.Core.List.{List, [], _∷_}
+use mathlib.Core.Bool.{true, false}
+use mathlib.Core.List.{List}
 use native.Mathlib.Nat.{mod-lt, one-mul}
 use native.Mathlib.Numerals.{one-add}
 use native.Mathlib.Omega.{arith}
 use native.Mathlib.Decide.{decLt}
 use lib.ListN.{length, getD}
 use lib.Seq.{getD-take, getD-drop}
-use lib.Dec.{eqb}
 use lib.Pow.{pow-pos, mod-pow-add}
 use lib.IntN.{ℤ, pos, negℤ, natAbs, _+ℤ_, _-ℤ_, +ℤ-assoc, +ℤ-comm}
-use borrow.Author.Tests.{eqb-true, eqb-false, eq-eqb, ne-eqb}
+use borrow.Author.Tests.{eqb-true, eqb-false, ne-eqb}
 use Rattle.numbers.specs.Ranges.{eqZ}
 use Rattle.numbers.specs.Laws.Bools.{yes-or-no}
 use Rattle.numbers.specs.Laws.Integers.{sub-self, sub-add, eqZ-refl}
-use Rattle.blocks.specs.Blocks.{block, first, lowerHalf, upperHalf, differences}
+use Rattle.blocks.specs.Blocks.{first, lowerHalf, upperHalf, differences}
 use Rattle.blocks.specs.Classes.{numberIn}
 use Rattle.blocks.specs.Laws.Known.{number-at}
-use Rattle.diagram.specs.Records.{branches, kinds, recordsBelow, node, records}
+use Rattle.diagram.specs.Records.{branches, kinds, recordsBelow, node}
 use Rattle.diagram.specs.Walk.{variableAt, lowAt, highAt, weightAt, bitSet, pathWeight}
 use Rattle.diagram.specs.Accepted.{written}
 use Rattle.diagram.specs.Laws.Alike.{BlockLike, like-length, like-lower, like-upper}
 use Rattle.diagram.specs.Laws.Nodes.{node-branching, node-passing, node-below, kind-known}
-use Rattle.diagram.specs.Laws.Numbering.{Numbered, numbered, kind-variable, below-more, StandsFor, kind-stands}
+use Rattle.diagram.specs.Laws.Numbering.{numbered, kind-variable, below-more, StandsFor, kind-stands}
 use Rattle.diagram.specs.Laws.Shifts.{passing-halves}
 
 -- ---- one step of a path

@@ -24,12 +24,14 @@ twice-blocks n i h = ap (λ k. 2 ^ k) (let e : n - i ≡ suc (n - suc i) = omega
 
 -- ---- blocks of the table
 
+-- Block j of a height stands at place j.
 pub blocks-at : (n : ℕ) (table : List ℤ) (i j : ℕ) → j < 2 ^ (n - i) → getD (blocks n table i) j [] ≡ block table i j
 unfolding blocks
 blocks-at n table i j l =
     getD-map (block table i) (range 0 (2 ^ (n - i))) j 0 [] (rw length-range l)
     ∙ ap (block table i) (getD-range 0 (2 ^ (n - i)) j 0 l ∙ zero-add j)
 
+-- The lower half of block j is block 2j of one height less.
 pub lower-of-block : (table : List ℤ) (i j : ℕ) → lowerHalf i (block table (suc i) j) ≡ block table i (j * 2)
 lower-of-block table i j =
     lower-half-block i (block table (suc i) j)
@@ -44,9 +46,11 @@ pub record BlockLike (n : ℕ) (table : List ℤ) (i : ℕ) (values : List ℤ) 
   pub alike : differences values ≡ differences (block table i place)
 
 module _ (n : ℕ) (table : List ℤ) (size : length table ≡ 2 ^ n) where
+  -- Each block has its whole length.
   pub whole-length : (i j : ℕ) → i ≤ n → j < 2 ^ (n - i) → length (block table i j) ≡ 2 ^ i
   whole-length i j h l = block-length table i j (let r = part-room (2 ^ (n - i)) i j l in omega (arith, power-split n i h))
 
+  -- The upper half of block j is block 2j + 1 of one height less.
   pub upper-of-block : (i j : ℕ) → suc i ≤ n → j < 2 ^ (n - suc i) → upperHalf i (block table (suc i) j) ≡ block table i (j * 2 + 1)
   upper-of-block i j h l =
       upper-half-block i (block table (suc i) j) (whole-length (suc i) j h l ∙ two-pow-succ i)
@@ -55,15 +59,19 @@ module _ (n : ℕ) (table : List ℤ) (size : length table ≡ 2 ^ n) where
 
   -- ---- lists that are blocks up to a constant
 
+  -- A block is like itself.
   pub block-like : (i j : ℕ) → j < 2 ^ (n - i) → BlockLike n table i (block table i j)
   block-like i j l = record { place = j; inside = l; alike = refl }
 
+  -- Such a list has a block's length.
   pub like-length : (i : ℕ) (values : List ℤ) → i ≤ n → BlockLike n table i values → length values ≡ 2 ^ i
   like-length i values h b = same-length values (block table i (b .place)) (b .alike) ∙ whole-length i (b .place) h (b .inside)
 
+  -- Its differences are such a list too.
   pub like-differences : (i : ℕ) (values : List ℤ) → BlockLike n table i values → BlockLike n table i (differences values)
   like-differences i values b = record { place = b .place; inside = b .inside; alike = differences-again values ∙ b .alike }
 
+  -- And so are its halves, of one height less.
   pub like-lower : (i : ℕ) (values : List ℤ) → suc i ≤ n → BlockLike n table (suc i) values → BlockLike n table i (lowerHalf i values)
   like-lower i values h b = record {
     place = b .place * 2;
@@ -83,5 +91,6 @@ module _ (n : ℕ) (table : List ℤ) (size : length table ≡ 2 ^ n) where
   unfolding block
   table-block = ap (λ k. take (2 ^ n) (drop k table)) (zero-mul (2 ^ n)) ∙ take-all (2 ^ n) table (omega arith)
 
+  -- And so it is like a block.
   pub table-like : BlockLike n table n table
   table-like = record { place = 0; inside = pow-pos (n - n); alike = ap differences (sym table-block) }

@@ -24,8 +24,8 @@ use Rattle.diagram.specs.Walk.{variableAt, lowAt, highAt, weightAt, chil
 use Rattle.diagram.specs.Accepted.{written}
 use Rattle.diagram.specs.Laws.Alike.{lower-of-block, upper-of-block, twice-blocks}
 use Rattle.diagram.specs.Laws.Nodes.{node-below, node-branching}
-use Rattle.diagram.specs.Laws.Numbering.{records-room, written-length, written-count, numbered, kind-variable, StandsFor}
-use Rattle.diagram.specs.Laws.RecordBlocks.{RecordBlock, blockOf, record-block, below, lower-like, upper-like}
+use Rattle.diagram.specs.Laws.Numbering.{records-room, written-length, written-whole, written-count, numbered, kind-variable, StandsFor}
+use Rattle.diagram.specs.Laws.RecordBlocks.{RecordBlock, blockOf, record-block, height-within, lower-like, upper-like}
 
 -- Build's buffer rule has room for the records.
 pub written-room : (n : ℕ) (table : List ℤ) → length (written n table) ≤ nodeRoom n
@@ -53,6 +53,7 @@ module _ (n : ℕ) (table : List ℤ) (size : length table ≡ 2 ^ n) (values : 
       ap isValue (block-at table i j 0 (pow-pos i))
       ∙ every-at isValue table (pos 0) values (j * 2 ^ i + 0) (let r = part-room (2 ^ (n - i)) i j l in omega (arith, power-split n i h, pow-pos i))
 
+  -- The weight of a block is a weight.
   pub block-weight : (i j : ℕ) → suc i ≤ n → j < 2 ^ (n - suc i) → isWeight (first (upperHalf i (block table (suc i) j)) -ℤ first (lowerHalf i (block table (suc i) j))) ≡ true
   block-weight i j h l =
       ap₂ (λ a b. isWeight (first a -ℤ first b)) (upper-of-block n table size i j h l) (lower-of-block table i j)
@@ -60,6 +61,7 @@ module _ (n : ℕ) (table : List ℤ) (size : length table ≡ 2 ^ n) (values : 
       (first-value i (j * 2 + 1) (omega arith) (omega (arith, twice-blocks n i h)))
       (first-value i (j * 2) (omega arith) (omega (arith, twice-blocks n i h)))
 
+  -- Each record fits.
   pub record-fits : (m : ℕ) → 0 < m → m ≤ length (records n table) → recordFits n (written n table) m ≡ true
   unfolding recordFits
   record-fits m h l =
@@ -67,8 +69,8 @@ module _ (n : ℕ) (table : List ℤ) (size : length table ≡ 2 ^ n) (values : 
       (and-both (variable-fits && low-fits) high-fits
       (and-both variable-fits low-fits
       (ap (within (pos 0) (pos (n - 1))) (s .variable) ∙ within-pos (n - 1) i (let p = r .lower in omega arith))
-      (ap (childFits list m) (s .low) ∙ child-fits n table m i (node n table i (lowerHalf i whole)) (r .lower) (node-below n table size i (lowerHalf i whole) (below n table size r) (lower-like n table size r)) later (s .variable)))
-      (ap (childFits list m) (s .high) ∙ child-fits n table m i (node n table i (upperHalf i whole)) (r .lower) (node-below n table size i (upperHalf i whole) (below n table size r) (upper-like n table size r)) later (s .variable)))
+      (ap (childFits list m) (s .low) ∙ child-fits n table m i (node n table i (lowerHalf i whole)) (r .lower) (node-below n table size i (lowerHalf i whole) (height-within n table size r) (lower-like n table size r)) later (s .variable)))
+      (ap (childFits list m) (s .high) ∙ child-fits n table m i (node n table i (upperHalf i whole)) (r .lower) (node-below n table size i (upperHalf i whole) (height-within n table size r) (upper-like n table size r)) later (s .variable)))
       (ap isWeight (s .weight) ∙ block-weight i (r .place) (r .lower) (r .inside))
     where
       list : List ℤ
@@ -98,12 +100,13 @@ module _ (n : ℕ) (table : List ℤ) (size : length table ≡ 2 ^ n) (values : 
       later : recordsBelow n table i < m
       later = let a = r .number in let b = node-branching n table i whole (r .branched) in omega arith
 
+  -- And so the list does.
   pub list-fits : listFits n (written n table) ≡ true
-  unfolding listFits recordSize
+  unfolding listFits
   list-fits =
-      and-both (eqb (length (written n table) % 4) 0 && leb (length (written n table)) (nodeRoom n)) (every (recordFits n (written n table)) (range 1 (recordCount (written n table))))
-      (and-both (eqb (length (written n table) % 4) 0) (leb (length (written n table)) (nodeRoom n))
-      (eq-eqb (length (written n table) % 4) 0 (let e = written-length n table in let z : length (written n table) % 4 ≡ 0 = omega arith in z))
+      and-both (eqb (length (written n table) % recordSize) 0 && leb (length (written n table)) (nodeRoom n)) (every (recordFits n (written n table)) (range 1 (recordCount (written n table))))
+      (and-both (eqb (length (written n table) % recordSize) 0) (leb (length (written n table)) (nodeRoom n))
+      (eq-eqb (length (written n table) % recordSize) 0 (written-whole n table))
       (le-leb (length (written n table)) (nodeRoom n) (written-room n table)))
       (every-from (recordFits n (written n table)) (range 1 (recordCount (written n table))) 0 each)
     where

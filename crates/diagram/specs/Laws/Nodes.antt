@@ -23,10 +23,12 @@ use Rattle.diagram.specs.Laws.Shifts.{branches-differences, same-branche
 module _ (n : ℕ) (table : List ℤ) where
   -- ---- a node by its block's halves
 
+  -- A branching block has a record.
   pub node-branching : (i : ℕ) (values : List ℤ) → branches i values ≡ true → node n table (suc i) values ≡ suc (recordsBelow n table i + numberIn (kinds n table i) (differences values))
   unfolding node
   node-branching i values e = rw (e, node)
 
+  -- Any other is the node of its lower half.
   pub node-passing : (i : ℕ) (values : List ℤ) → branches i values ≡ false → node n table (suc i) values ≡ node n table i (lowerHalf i values)
   unfolding node
   node-passing i values e = rw (e, node)
@@ -48,6 +50,7 @@ module _ (n : ℕ) (table : List ℤ) where
       ∙ node-differences i (lowerHalf i values)
       ∙ sym (node-passing i values e))
 
+  -- Blocks of equal differences share their node.
   pub same-node : (i : ℕ) (left right : List ℤ) → differences left ≡ differences right → node n table i left ≡ node n table i right
   same-node i left right e = sym (node-differences i left) ∙ ap (node n table i) e ∙ node-differences i right
 
@@ -139,6 +142,7 @@ module _ (n : ℕ) (table : List ℤ) (size : length table ≡ 2 ^ n) where
       (λ k l. let r = branching-from n table i k l in r .1 .2 ∙ all (r .0) (r .1 .0))
       (let k : numberIn (distinct (branching n table i)) (differences values) < length (distinct (branching n table i)) = kind-known n table i values b e in let d = distinct-length (branching n table i) in omega arith)
 
+  -- And where none branches, there is no kind.
   no-kind : (i : ℕ) (values : List ℤ) → ((j : ℕ) → j < 2 ^ (n - suc i) → differences (block table (suc i) j) ≡ differences values) → branches i values ≡ false → length (kinds n table i) ≡ 0
   unfolding kinds distinct learnAll
   no-kind i values all e =
@@ -147,7 +151,7 @@ module _ (n : ℕ) (table : List ℤ) (size : length table ≡ 2 ^ n) where
       let p : j < 2 ^ (n - suc i) = omega (arith, blocks-count n table (suc i)) in
       ap (branches i) (blocks-at n table (suc i) j p) ∙ same-branches i (block table (suc i) j) values (all j p) ∙ e))
 
-  -- And where none branches, all their halves have equal differences too.
+  -- Then all their halves have equal differences too.
   all-halves : (i : ℕ) (values : List ℤ) → suc i ≤ n → ((j : ℕ) → j < 2 ^ (n - suc i) → differences (block table (suc i) j) ≡ differences values) → branches i values ≡ false → (j : ℕ) → j < 2 ^ (n - i) → differences (block table i j) ≡ differences (lowerHalf i values)
   all-halves i values h all e j l = even-or-odd (ℕ-discrete (j % 2) 0)
     where

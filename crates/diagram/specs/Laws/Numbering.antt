@@ -1,5 +1,5 @@
 -- Where records stand: how many there are, which one has a number, and what its four numbers are.
-use Prim.Native.Nat.{ℕ, zero, suc, _+_, _-_, _*_, _^_, _≤_, _<_}
+use Prim.Native.Nat.{ℕ, zero, suc, _+_, _-_, _*_, _%_, _^_, _≤_, _<_}
 use mathlib.Core.Path.{_≡_, refl, sym, _∙_, ap, ap₂}
 use mathlib.Core.List.{List, [], _∷_, _++_, map, flatMap, append-nil}
 use native.Mathlib.Nat.{zero-add, sub-zero, two-pow-succ}
@@ -21,6 +21,7 @@ use Rattle.diagram.specs.Laws.Alike.{twice-blocks}
 use Rattle.diagram.specs.Laws.Nodes.{same-node, kinds-le}
 use Rattle.diagram.specs.Laws.Shifts.{lower-differences, upper-differences}
 
+-- The first value of a block less a constant.
 first-less : (c : ℤ) (values : List ℤ) → 0 < length values → first (map (λ v. v -ℤ c) values) ≡ first values -ℤ c
 unfolding first
 first-less c values h = getD-map (λ v. v -ℤ c) values 0 (pos 0) (pos 0) h
@@ -40,6 +41,7 @@ weight-of-differences i values h =
 module _ (n : ℕ) (table : List ℤ) where
   -- ---- how many there are
 
+  -- Those of the variables below i.
   records-before : (i : ℕ) → length (flatMap (recordsAt n table) (range 0 i)) ≡ recordsBelow n table i
   unfolding range flatMap recordsBelow recordsAt
   records-before zero = refl
@@ -48,6 +50,7 @@ module _ (n : ℕ) (table : List ℤ) where
       ∙ length-append (flatMap (recordsAt n table) (range 0 i)) (recordsAt n table i ++ [])
       ∙ ap₂ (λ a b. a + b) (records-before i) (ap length (append-nil (recordsAt n table i)) ∙ length-map (kinds n table i) (recordOf n table i))
 
+  -- All of them.
   pub records-count : length (records n table) ≡ recordsBelow n table n
   unfolding records
   records-count = records-before n
@@ -67,6 +70,7 @@ module _ (n : ℕ) (table : List ℤ) where
   unfolding recordsBelow
   kind-within i k h l = let m : recordsBelow n table i + length (kinds n table i) ≤ recordsBelow n table n = below-more (suc i) n h in omega (arith, records-count)
 
+  -- What is left of 2^n is as many as there are blocks of height i.
   below-room : (i : ℕ) → i ≤ n → recordsBelow n table i + 2 ^ (n - i) ≤ 2 ^ n
   unfolding recordsBelow
   below-room zero h = rw (sub-zero, zero-add) (omega arith)
@@ -88,6 +92,7 @@ module _ (n : ℕ) (table : List ℤ) where
     pub known : kind < length (kinds n table height)
     pub number : m ≡ suc (recordsBelow n table height + kind)
 
+  -- Each number from 1 on is that of one record.
   pub numbered : (i m : ℕ) → 0 < m → m ≤ recordsBelow n table i → Numbered i m
   unfolding recordsBelow
   numbered zero m h l = absurd (omega arith)
@@ -101,6 +106,7 @@ module _ (n : ℕ) (table : List ℤ) where
 
   -- ---- what its numbers are
 
+  -- The record of kind k of variable i stands behind all records of lower variables.
   pub record-at : (i k : ℕ) (filler : Record) → i < n → k < length (kinds n table i) → getD (records n table) (recordsBelow n table i + k) filler ≡ recordOf n table i (getD (kinds n table i) k [])
   unfolding records recordsAt range flatMap
   record-at i k filler h l =
@@ -118,27 +124,33 @@ module _ (n : ℕ) (table : List ℤ) where
           ∙ ap (flatMap (recordsAt n table)) (range-add 0 i (suc (n - suc i)) ∙ ap (λ s. range 0 i ++ range s (suc (n - suc i))) (zero-add i))
           ∙ flatMap-append (recordsAt n table) (range 0 i) (range i (suc (n - suc i)))
 
-  pub written-length : length (written n table) ≡ 4 * length (records n table)
-  unfolding recordNumbers
-  written-length = length-flatMap recordNumbers 4 (λ r. refl) (records n table)
+  -- The numbers that Build writes, and the records that Walk counts in them.
+  pub written-length : length (written n table) ≡ recordSize * length (records n table)
+  unfolding recordNumbers recordSize
+  written-length = length-flatMap recordNumbers recordSize (λ r. refl) (records n table)
+
+  pub written-whole : length (written n table) % recordSize ≡ 0
+  unfolding recordSize
+  written-whole = let e = written-length in omega arith
 
   pub written-count : recordCount (written n table) ≡ length (records n table)
   unfolding recordCount recordSize
   written-count = let e = written-length in omega arith
 
   -- Number c of the record of a kind.
-  number-of-kind : (i k c : ℕ) → i < n → k < length (kinds n table i) → c < 4 → numberAt (written n table) (suc (recordsBelow n table i + k)) c ≡ getD (recordNumbers (recordOf n table i (getD (kinds n table i) k []))) c (pos 0)
+  number-of-kind : (i k c : ℕ) → i < n → k < length (kinds n table i) → c < recordSize → numberAt (written n table) (suc (recordsBelow n table i + k)) c ≡ getD (recordNumbers (recordOf n table i (getD (kinds n table i) k []))) c (pos 0)
   unfolding numberAt recordSize recordNumbers
   number-of-kind i k c h l m =
-      ap (λ p. getD (written n table) (4 * p + c) (pos 0)) (let e : suc (recordsBelow n table i + k) - 1 ≡ recordsBelow n table i + k = omega arith in e)
-      ∙ getD-flatMap recordNumbers 4 (λ r. refl) (records n table) filler (pos 0) (recordsBelow n table i + k) c (kind-within i k h l) m
+      ap (λ p. getD (written n table) (recordSize * p + c) (pos 0)) (let e : suc (recordsBelow n table i + k) - 1 ≡ recordsBelow n table i + k = omega arith in e)
+      ∙ getD-flatMap recordNumbers recordSize (λ r. refl) (records n table) filler (pos 0) (recordsBelow n table i + k) c (kind-within i k h l) m
       ∙ ap (λ r. getD (recordNumbers r) c (pos 0)) (record-at i k filler h l)
     where
       filler : Record
       filler = record { variable = 0; low = 0; high = 0; weight = pos 0 }
 
+  -- Its variable.
   pub kind-variable : (i k : ℕ) → i < n → k < length (kinds n table i) → variableAt (written n table) (suc (recordsBelow n table i + k)) ≡ pos i
-  unfolding variableAt recordOf recordNumbers
+  unfolding variableAt recordOf recordNumbers recordSize
   kind-variable i k h l = number-of-kind i k 0 h l (omega arith)
 
   -- Record m stands for a block whose halves have height i, given by its values.
@@ -150,7 +162,7 @@ module _ (n : ℕ) (table : List ℤ) where
 
   -- The record of a kind stands for every block of that kind.
   pub kind-stands : (i k : ℕ) (values : List ℤ) → i < n → k < length (kinds n table i) → length values ≡ 2 ^ suc i → getD (kinds n table i) k [] ≡ differences values → StandsFor (suc (recordsBelow n table i + k)) i values
-  unfolding lowAt highAt weightAt recordOf recordNumbers
+  unfolding lowAt highAt weightAt recordOf recordNumbers recordSize
   kind-stands i k values h l s e = record {
     variable = kind-variable i k h l;
     low = number-of-kind i k 1 h l (omega arith) ∙ ap (λ d. pos (node n table i (lowerHalf i d))) e ∙ ap pos (same-node n table i (lowerHalf i (differences values)) (lowerHalf i values) (lower-differences i values));

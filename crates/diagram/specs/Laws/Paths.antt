@@ -28,6 +28,7 @@ use Rattle.diagram.specs.Laws.Shifts.{passing-halves}
 
 -- ---- one step of a path
 
+-- The terminal adds nothing.
 pub path-terminal : (list : List ℤ) (i x : ℕ) → pathWeight list i 0 x ≡ pos 0
 unfolding pathWeight
 path-terminal list zero x = refl
@@ -38,6 +39,7 @@ path-skip : (list : List ℤ) (i k x : ℕ) → eqZ (variableAt list (suc k)) (p
 unfolding pathWeight
 path-skip list i k x e = rw (e, pathWeight)
 
+-- Different variables are told apart.
 lower-variable : (j i : ℕ) → j < i → eqZ (pos j) (pos i) ≡ false
 unfolding eqZ
 lower-variable j i h = ne-eqb j i (λ e. omega arith)
@@ -53,6 +55,7 @@ path-low list i k x e b = rw (e, b, pathWeight)
 
 -- ---- one bit of X
 
+-- The place in a block, by the bit that picks its half.
 bit-one : (x i : ℕ) → bitSet x i ≡ true → x % 2 ^ suc i ≡ 2 ^ i + x % 2 ^ i
 unfolding bitSet
 bit-one x i e =
@@ -78,6 +81,7 @@ value-low : (values : List ℤ) (i x : ℕ) → bitSet x i ≡ false → getD va
 unfolding lowerHalf
 value-low values i x e = ap (λ p. getD values p (pos 0)) (bit-zero x i e) ∙ sym (getD-take (2 ^ i) values (x % 2 ^ i) (pos 0) (mod-lt x (pow-pos i)))
 
+-- A block begins as its lower half does.
 pub first-lower : (values : List ℤ) (i : ℕ) → first (lowerHalf i values) ≡ first values
 unfolding first lowerHalf
 first-lower values i = getD-take (2 ^ i) values 0 (pos 0) (pow-pos i)
@@ -114,6 +118,7 @@ module _ (n : ℕ) (table : List ℤ) where
 
   -- A record reads its own variable: the weight and the high child, or the low child.
   module _ (i m : ℕ) (values : List ℤ) (s : StandsFor n table (suc m) i values) where
+    -- Its own variable is told.
     own-variable : eqZ (variableAt (written n table) (suc m)) (pos i) ≡ true
     own-variable = ap (λ v. eqZ v (pos i)) (s .variable) ∙ eqZ-refl (pos i)
 
@@ -138,6 +143,7 @@ module _ (n : ℕ) (table : List ℤ) (size : length table ≡ 2 ^ n) where
   module _ (i : ℕ) (values : List ℤ) (x : ℕ) (h : suc i ≤ n) (b : BlockLike n table (suc i) values)
       (lower : pathWeight (written n table) i (node n table i (lowerHalf i values)) x ≡ getD (lowerHalf i values) (x % 2 ^ i) (pos 0) -ℤ first (lowerHalf i values))
       (upper : pathWeight (written n table) i (node n table i (upperHalf i values)) x ≡ getD (upperHalf i values) (x % 2 ^ i) (pos 0) -ℤ first (upperHalf i values)) where
+    -- A block that branches: its record's two edges.
     branching-path : branches i values ≡ true → pathWeight (written n table) (suc i) (node n table (suc i) values) x ≡ getD values (x % 2 ^ suc i) (pos 0) -ℤ first values
     branching-path e =
         ap (λ m. pathWeight (written n table) (suc i) m x) (node-branching n table i values e)
@@ -158,6 +164,7 @@ module _ (n : ℕ) (table : List ℤ) (size : length table ≡ 2 ^ n) where
         stands : StandsFor n table (suc before) i values
         stands = branching-stands i values h b e
 
+    -- A block that does not: the lower half's path, which is also the upper half's.
     passing-path : branches i values ≡ false → pathWeight (written n table) (suc i) (node n table (suc i) values) x ≡ getD values (x % 2 ^ suc i) (pos 0) -ℤ first values
     passing-path e =
         ap (λ m. pathWeight (written n table) (suc i) m x) (node-passing n table i values e)

@@ -37,6 +37,7 @@ unfolding kinds
 own-kind n table i k h = own-distinct (map differences (keep (branches i) (blocks n table (suc i)))) k h
 
 module _ (n : ℕ) (table : List ℤ) (size : length table ≡ 2 ^ n) where
+  -- Each record has its block.
   pub record-block : (m : ℕ) → 0 < m → m ≤ length (records n table) → RecordBlock n table m
   record-block m h l =
       let r = numbered n table n m h (let c = records-count n table in omega arith) in
@@ -54,9 +55,10 @@ module _ (n : ℕ) (table : List ℤ) (size : length table ≡ 2 ^ n) where
   -- ---- the halves of a record's block
 
   module _ {m : ℕ} (r : RecordBlock n table m) where
-    pub below : r .height ≤ n
-    below = let p = r .lower in omega arith
+    pub height-within : r .height ≤ n
+    height-within = let p = r .lower in omega arith
 
+    -- The block and its halves are blocks of the table.
     pub record-like : BlockLike n table (suc (r .height)) (blockOf r)
     record-like = block-like n table size (suc (r .height)) (r .place) (r .inside)
 
@@ -66,13 +68,13 @@ module _ (n : ℕ) (table : List ℤ) (size : length table ≡ 2 ^ n) where
     pub upper-like : BlockLike n table (r .height) (upperHalf (r .height) (blockOf r))
     upper-like = like-upper n table size (r .height) (blockOf r) (r .lower) record-like
 
-    -- They differ somewhere.
+    -- The halves differ somewhere.
     pub halves-differ : ((y : ℕ) → y < 2 ^ r .height → getD (lowerHalf (r .height) (blockOf r)) y (pos 0) ≡ getD (upperHalf (r .height) (blockOf r)) y (pos 0)) → ⊥
     halves-differ same =
         branching-halves (r .height) (blockOf r) (r .branched)
         (ext-getD (pos 0) (lowerHalf (r .height) (blockOf r)) (upperHalf (r .height) (blockOf r))
-        (lower-length ∙ sym (like-length n table size (r .height) (upperHalf (r .height) (blockOf r)) below upper-like))
+        (lower-length ∙ sym (like-length n table size (r .height) (upperHalf (r .height) (blockOf r)) height-within upper-like))
         (λ y l. same y (omega (arith, lower-length))))
       where
         lower-length : length (lowerHalf (r .height) (blockOf r)) ≡ 2 ^ r .height
-        lower-length = like-length n table size (r .height) (lowerHalf (r .height) (blockOf r)) below lower-like
+        lower-length = like-length n table size (r .height) (lowerHalf (r .height) (blockOf r)) height-within lower-like

@@ -19,7 +19,7 @@ use Rattle.diagram.specs.Accepted.{written, nodeFunction}
 use Rattle.diagram.specs.Laws.Alike.{whole-length, block-like}
 use Rattle.diagram.specs.Laws.Nodes.{same-node, node-below}
 use Rattle.diagram.specs.Laws.Paths.{path-terminal, block-path, path-from-above}
-use Rattle.diagram.specs.Laws.RecordBlocks.{RecordBlock, blockOf, record-block, below, lower-like, upper-like, halves-differ}
+use Rattle.diagram.specs.Laws.RecordBlocks.{RecordBlock, blockOf, record-block, height-within, lower-like, upper-like, halves-differ}
 
 -- ---- differences that agree
 
@@ -36,6 +36,7 @@ same-low-bits : (i above y : ℕ) → i ≤ above → (2 ^ above + y) % 2 ^ i �
 same-low-bits i above y h =
     ap (λ p. (p + y) % 2 ^ i) (sym (power-split above i h)) ∙ mul-add-mod-self-right (2 ^ (above - i)) (2 ^ i) y
 
+-- The values of the halves.
 getD-lower : (values : List ℤ) (i y : ℕ) → y < 2 ^ i → getD (lowerHalf i values) y (pos 0) ≡ getD values y (pos 0)
 unfolding lowerHalf
 getD-lower values i y h = getD-take (2 ^ i) values y (pos 0) h
@@ -54,6 +55,7 @@ module _ (n : ℕ) (table : List ℤ) (size : length table ≡ 2 ^ n) where
       path-from-above n table i n (node n table i (block table i j)) x h (omega arith) (node-below n table size i (block table i j) h b)
       ∙ block-path n table size i (block table i j) x h b
 
+  -- They are the block's differences.
   pub block-differences : (i j x : ℕ) → i ≤ n → j < 2 ^ (n - i) → nodeFunction n table (node n table i (block table i j)) x ≡ getD (differences (block table i j)) (x % 2 ^ i) (pos 0)
   block-differences i j x h l =
       block-values i j x h l
@@ -64,12 +66,14 @@ module _ (n : ℕ) (table : List ℤ) (size : length table ≡ 2 ^ n) where
   record-values m x r =
       ap (λ k. nodeFunction n table k x) (sym (r .number)) ∙ block-values (suc (r .height)) (r .place) x (r .lower) (r .inside)
 
+  -- They are the differences of its block.
   pub record-differences : (m x : ℕ) (r : RecordBlock n table m) → nodeFunction n table m x ≡ getD (differences (blockOf r)) (x % 2 ^ suc (r .height)) (pos 0)
   record-differences m x r =
       ap (λ k. nodeFunction n table k x) (sym (r .number)) ∙ block-differences (suc (r .height)) (r .place) x (r .lower) (r .inside)
 
   -- ---- no record is redundant
 
+  -- Equal children and weight 0 would make the block's halves equal.
   pub not-redundant : (m : ℕ) → RecordBlock n table m → lowAt (written n table) m ≡ highAt (written n table) m → weightAt (written n table) m ≡ pos 0 → ⊥
   not-redundant m r children weightless =
       halves-differ n table size r (λ y l. sub-cancel (getD lower y (pos 0)) (getD upper y (pos 0)) (first upper) (at-place y l))
@@ -92,9 +96,9 @@ module _ (n : ℕ) (table : List ℤ) (size : length table ≡ 2 ^ n) where
       at-place : (y : ℕ) → y < 2 ^ i → getD lower y (pos 0) -ℤ first upper ≡ getD upper y (pos 0) -ℤ first upper
       at-place y l =
           ap₂ (λ p f. getD lower p (pos 0) -ℤ f) (sym (mod-eq-of-lt l)) same-first
-          ∙ sym (block-path n table size i lower y (below n table size r) (lower-like n table size r))
+          ∙ sym (block-path n table size i lower y (height-within n table size r) (lower-like n table size r))
           ∙ ap (λ k. pathWeight (written n table) i k y) same-child
-          ∙ block-path n table size i upper y (below n table size r) (upper-like n table size r)
+          ∙ block-path n table size i upper y (height-within n table size r) (upper-like n table size r)
           ∙ ap (λ p. getD upper p (pos 0) -ℤ first upper) (mod-eq-of-lt l)
 
   -- ---- no two nodes stand for one function
@@ -159,6 +163,7 @@ module _ (n : ℕ) (table : List ℤ) (size : length table ≡ 2 ^ n) where
         alike : differences (blockOf r) ≡ differences (blockOf t)
         alike = ext-getD (pos 0) (differences (blockOf r)) (differences (blockOf t)) (left-length ∙ sym right-length) (λ x l. at-place x (omega (arith, left-length)))
 
+  -- Records of one function are one record.
   one-function-one-record : (m k : ℕ) → RecordBlock n table m → RecordBlock n table k → ((x : ℕ) → x < 2 ^ n → nodeFunction n table m x ≡ nodeFunction n table k x) → m ≡ k
   one-function-one-record m k r t same = by-height (decLt (r .height) (t .height)) (decLt (t .height) (r .height))
     where
@@ -167,6 +172,7 @@ module _ (n : ℕ) (table : List ℤ) (size : length table ≡ 2 ^ n) where
       by-height (no h) (yes l) = absurd (not-lower k m t r (λ x p. sym (same x p)) l)
       by-height (no h) (no l) = same-height m k r t same (omega arith)
 
+  -- And so nodes of one function are one node.
   pub one-function-one-node : (m k : ℕ) → m ≤ length (records n table) → k ≤ length (records n table) → ((x : ℕ) → x < 2 ^ n → nodeFunction n table m x ≡ nodeFunction n table k x) → m ≡ k
   one-function-one-node zero zero lm lk same = refl
   one-function-one-node zero (suc k) lm lk same =

@@ -22,6 +22,7 @@ use Rattle.diagram.specs.Laws.Walks.{root-path}
 
 -- ---- a constant more leaves the records
 
+-- Its blocks are the blocks, each more by the constant.
 blocks-shift : (n : ℕ) (c : ℤ) (table : List ℤ) (i : ℕ) → blocks n (shift c table) i ≡ map (shift c) (blocks n table i)
 unfolding blocks block
 blocks-shift n c table i =
@@ -31,6 +32,7 @@ blocks-shift n c table i =
     more : ℤ → ℤ
     more v = v +ℤ c
 
+-- The kinds, how many there are below a variable, the nodes and the records stay.
 kinds-shift : (n : ℕ) (c : ℤ) (table : List ℤ) (i : ℕ) → kinds n (shift c table) i ≡ kinds n table i
 unfolding kinds
 kinds-shift n c table i =
@@ -65,6 +67,7 @@ record-shift n c table i values =
     made : ℕ → ℕ → Record
     made a b = record { variable = i; low = a; high = b; weight = first (upperHalf i values) -ℤ first (lowerHalf i values) }
 
+-- So all records stay.
 pub records-shift : (n : ℕ) (c : ℤ) (table : List ℤ) → records n (shift c table) ≡ records n table
 unfolding records recordsAt
 records-shift n c table =
@@ -89,6 +92,7 @@ across a b c d e =
     ∙ +ℤ-assoc a (negℤ b) d
     ∙ ap (λ z. a +ℤ z) (+ℤ-comm (negℤ b) d)
 
+-- Of equal records, one table is the other more by the difference of their offsets.
 pub same-records : (n : ℕ) (left right : List ℤ) → length left ≡ 2 ^ n → length right ≡ 2 ^ n → records n left ≡ records n right → right ≡ shift (first right -ℤ first left) left
 same-records n left right sl sr e =
     ext-getD (pos 0) right (shift c left)

@@ -20,6 +20,7 @@ use Rattle.diagram.specs.Records.{branches}
 abbrev pub shift : ℤ → List ℤ → List ℤ
 shift c values = map (λ v. v +ℤ c) values
 
+-- The tests for equality do not see the constant.
 eqZ-shift : (c a b : ℤ) → eqZ (a +ℤ c) (b +ℤ c) ≡ eqZ a b
 eqZ-shift c a b =
     yes-or-no (eqZ a b)
@@ -38,6 +39,7 @@ same-shift c [] (z ∷ right) = refl
 same-shift c (y ∷ left) [] = refl
 same-shift c (y ∷ left) (z ∷ right) = ap₂ (λ a b. a && b) (eqZ-shift c y z) (same-shift c left right)
 
+-- Nor does the test for branching.
 pub branches-shift : (i : ℕ) (c : ℤ) (values : List ℤ) → branches i (shift c values) ≡ branches i values
 unfolding branches lowerHalf upperHalf
 branches-shift i c values =
@@ -52,6 +54,7 @@ branches-differences i values = branches-shift i (negℤ (first values)) values
 pub same-branches : (i : ℕ) (left right : List ℤ) → differences left ≡ differences right → branches i left ≡ branches i right
 same-branches i left right e = sym (branches-differences i left) ∙ ap (branches i) e ∙ branches-differences i right
 
+-- The differences of a half are seen in the differences of the block.
 pub lower-differences : (i : ℕ) (values : List ℤ) → differences (lowerHalf i (differences values)) ≡ differences (lowerHalf i values)
 unfolding differences lowerHalf
 lower-differences i values =

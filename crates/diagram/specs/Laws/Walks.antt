@@ -30,6 +30,7 @@ root-path n table size x h =
     ∙ block-path n table size n table x (omega arith) (table-like n table size)
     ∙ ap (λ p. getD table p (pos 0) -ℤ first table) (mod-eq-of-lt h)
 
+-- With the offset they are the value at X.
 pub walk-value : (n : ℕ) (table : List ℤ) → length table ≡ 2 ^ n → (x : ℕ) → x < 2 ^ n → walkValue n (offset table) (written n table) x ≡ getD table x (pos 0)
 unfolding walkValue offset
 walk-value n table size x h =
@@ -37,10 +38,12 @@ walk-value n table size x h =
     ∙ +ℤ-comm (first table) (getD table x (pos 0) -ℤ first table)
     ∙ sub-add (getD table x (pos 0)) (first table)
 
+-- The offset is a value.
 offset-value : (n : ℕ) (table : List ℤ) → Accepted n table → isValue (offset table) ≡ true
 unfolding offset first
 offset-value n table a = every-at isValue table (pos 0) (a .values) 0 (let s = a .size in omega (arith, pow-pos n))
 
+-- Walk refuses nothing and answers that value.
 pub walk-records : (n : ℕ) (table : List ℤ) → Accepted n table → (x : ℕ) → x < 2 ^ n → walk n (offset table) (written n table) x ≡ accepted (getD table x (pos 0))
 unfolding walk
 walk-records n table a x h =

@@ -27,6 +27,7 @@ unfolding isWeight within
 weight-of-size (pos a) h = le-leb a 16777215 h
 weight-of-size (negsuc a) h = and-both (leb a 16777214) true (le-leb a 16777214 (omega arith)) refl
 
+-- The size of a difference of two natural numbers.
 sub-size : (a b : ℕ) → natAbs (subℕ a b) ≤ max a b
 sub-size a b =
     yes-or-no (ltb a b)

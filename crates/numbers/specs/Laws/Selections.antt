@@ -13,6 +13,7 @@ use Rattle.numbers.specs.Laws.Bools.{yes-or-no}
 -- ---- what passes a test
 
 module _ {A : Type 0} (test : A → Bool) where
+  -- The first element is kept, or not.
   pub keep-passed : (x : A) (l : List A) → test x ≡ true → keep test (x ∷ l) ≡ x ∷ keep test l
   unfolding keep
   keep-passed x l e = rw (e, keep)
@@ -21,6 +22,7 @@ module _ {A : Type 0} (test : A → Bool) where
   unfolding keep
   keep-failed x l e = rw (e, keep)
 
+  -- No more are kept than there are.
   pub keep-length : (l : List A) → length (keep test l) ≤ length l
   unfolding keep
   keep-length [] = omega arith
@@ -84,6 +86,7 @@ keep-map test f (x ∷ l) h =
 -- ---- lists joined end to end
 
 module _ {A B : Type 0} (f : A → List B) where
+  -- The parts of two lists.
   pub flatMap-append : (left right : List A) → flatMap f (left ++ right) ≡ flatMap f left ++ flatMap f right
   unfolding flatMap
   flatMap-append [] right = refl
@@ -91,6 +94,7 @@ module _ {A B : Type 0} (f : A → List B) where
 
   -- Parts of one size.
   module _ (size : ℕ) (each : (a : A) → length (f a) ≡ size) where
+    -- So many times that size.
     pub length-flatMap : (l : List A) → length (flatMap f l) ≡ size * length l
     unfolding flatMap
     length-flatMap [] = sym (mul-zero size)
@@ -111,6 +115,7 @@ module _ {A B : Type 0} (f : A → List B) where
         ∙ getD-append-add (f x) (flatMap f l) (size * k + c) b
         ∙ getD-flatMap l a b k c (omega arith) m
 
+-- Equal parts.
 pub flatMap-same : {A B : Type 0} (f g : A → List B) (l : List A) → ((a : A) → f a ≡ g a) → flatMap f l ≡ flatMap g l
 unfolding flatMap
 flatMap-same f g [] h = refl
@@ -118,6 +123,7 @@ flatMap-same f g (x ∷ l) h = ap₂ (λ p m. p ++ m) (h x) (flatMap-same f g l 
 
 -- ---- runs in two parts
 
+-- A run is its first numbers and those from there on.
 pub range-add : (start left right : ℕ) → range start (left + right) ≡ range start left ++ range (start + left) right
 unfolding range
 range-add start zero right = ap₂ range (sym (add-zero start)) (zero-add right)

@@ -15,7 +15,7 @@ use Rattle.numbers.specs.Laws.Lists.{length-range, getD-range, getD-map}
 use Rattle.numbers.specs.Laws.Powers.{power-split, part-room}
 use Rattle.blocks.specs.Blocks.{block, blocks, lowerHalf, upperHalf, differences}
 use Rattle.blocks.specs.Laws.Blocks.{block-length, block-in-block, lower-half-block, upper-half-block}
-use Rattle.blocks.specs.Laws.Differences.{differences-again, same-length}
+use Rattle.blocks.specs.Laws.Differences.{same-length}
 use Rattle.diagram.specs.Laws.Shifts.{same-lower, same-upper}
 
 -- Twice as many blocks of one height less.
@@ -67,11 +67,7 @@ module _ (n : ℕ) (table : List ℤ) (size : length table ≡ 2 ^ n) where
   pub like-length : (i : ℕ) (values : List ℤ) → i ≤ n → BlockLike n table i values → length values ≡ 2 ^ i
   like-length i values h b = same-length values (block table i (b .place)) (b .alike) ∙ whole-length i (b .place) h (b .inside)
 
-  -- Its differences are such a list too.
-  pub like-differences : (i : ℕ) (values : List ℤ) → BlockLike n table i values → BlockLike n table i (differences values)
-  like-differences i values b = record { place = b .place; inside = b .inside; alike = differences-again values ∙ b .alike }
-
-  -- And so are its halves, of one height less.
+  -- Its halves are such lists too, of one height less.
   pub like-lower : (i : ℕ) (values : List ℤ) → suc i ≤ n → BlockLike n table (suc i) values → BlockLike n table i (lowerHalf i values)
   like-lower i values h b = record {
     place = b .place * 2;

@@ -1,6 +1,7 @@
 -- Laws about the definitions of this crate, which proofs cite.
 pub mod BitLength
 pub mod Bools
+pub mod Bounds
 pub mod Extremes
 pub mod Integers
 pub mod Least
@@ -9,5 +10,6 @@ pub mod Machine
 pub mod Order
 pub mod Padding
 pub mod Powers
+pub mod Selections
 pub mod Tallies
 pub mod Widths

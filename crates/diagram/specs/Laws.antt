@@ -1,0 +1,11 @@
+-- Laws about the definitions of this crate, which proofs cite.
+pub mod Alike
+pub mod Fits
+pub mod Nodes
+pub mod Numbering
+pub mod Paths
+pub mod RecordBlocks
+pub mod Reduced
+pub mod SameRecords
+pub mod Shifts
+pub mod Walks

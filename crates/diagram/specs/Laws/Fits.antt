@@ -1,0 +1,117 @@
+-- The records of an accepted table pass Walk's check.
+use Prim.Native.Nat.{ℕ, zero, suc, _+_, _-_, _*_, _%_, _^_, _≤_, _<_}
+use mathlib.Core.Path.{_≡_, refl, _∙_, ap, ap₂}
+use mathlib.Core.Bool.{Bool, true, _&&_, _||_, or-true}
+use mathlib.Core.List.{List}
+use native.Mathlib.Omega.{arith}
+use lib.ListN.{length, getD}
+use lib.Dec.{leb, eqb}
+use lib.Pow.{pow-pos}
+use lib.IntN.{ℤ, pos, _-ℤ_}
+use lib.Signed.{ltZ}
+use borrow.Author.Tests.{lt-ltb, le-leb, eq-eqb}
+use Rattle.numbers.specs.Lists.{range, every}
+use Rattle.numbers.specs.Ranges.{isValue, isWeight, within, eqZ}
+use Rattle.numbers.specs.Laws.Bools.{and-both}
+use Rattle.numbers.specs.Laws.Bounds.{within-pos, difference-weight}
+use Rattle.numbers.specs.Laws.Lists.{length-range, getD-range, every-at, every-from}
+use Rattle.numbers.specs.Laws.Powers.{power-split, part-room}
+use Rattle.blocks.specs.Blocks.{block, first, lowerHalf, upperHalf}
+use Rattle.blocks.specs.Laws.Blocks.{block-at}
+use Rattle.diagram.specs.Records.{recordsBelow, node, records, recordSize}
+use Rattle.diagram.specs.Build.{nodeRoom}
+use Rattle.diagram.specs.Walk.{variableAt, lowAt, highAt, weightAt, childFits, recordFits, recordCount, listFits}
+use Rattle.diagram.specs.Accepted.{written}
+use Rattle.diagram.specs.Laws.Alike.{lower-of-block, upper-of-block, twice-blocks}
+use Rattle.diagram.specs.Laws.Nodes.{node-below, node-branching}
+use Rattle.diagram.specs.Laws.Numbering.{records-room, written-length, written-whole, written-count, numbered, kind-variable, StandsFor}
+use Rattle.diagram.specs.Laws.RecordBlocks.{RecordBlock, blockOf, record-block, height-within, lower-like, upper-like}
+
+-- Build's buffer rule has room for the records.
+pub written-room : (n : ℕ) (table : List ℤ) → length (written n table) ≤ nodeRoom n
+unfolding nodeRoom recordSize
+written-room n table = let r = records-room n table in let e = written-length n table in omega arith
+
+-- A node of a block of height i is a child that fits a record of variable i.
+child-fits : (n : ℕ) (table : List ℤ) (m i child : ℕ) → i < n → child ≤ recordsBelow n table i → recordsBelow n table i < m → variableAt (written n table) m ≡ pos i → childFits (written n table) m (pos child) ≡ true
+unfolding childFits eqZ
+child-fits n table m i zero h l k v = and-both (within (pos 0) (pos (m - 1)) (pos 0)) true (within-pos (m - 1) 0 (omega arith)) refl
+child-fits n table m i (suc child) h l k v =
+    let r = numbered n table i (suc child) (omega arith) l in
+    and-both (within (pos 0) (pos (m - 1)) (pos (suc child))) (eqb (suc child) 0 || ltZ (variableAt (written n table) (suc child)) (variableAt (written n table) m))
+    (within-pos (m - 1) (suc child) (omega arith))
+    (ap (λ b. eqb (suc child) 0 || b)
+    (ap₂ (λ a b. ltZ a b) (ap (variableAt (written n table)) (r .number) ∙ kind-variable n table (r .height) (r .kind) (let p = r .lower in omega arith) (r .known)) v
+    ∙ lt-ltb (r .height) i (r .lower))
+    ∙ or-true (eqb (suc child) 0))
+
+module _ (n : ℕ) (table : List ℤ) (size : length table ≡ 2 ^ n) (values : every isValue table ≡ true) where
+  -- A block begins with a value of the table.
+  first-value : (i j : ℕ) → i ≤ n → j < 2 ^ (n - i) → isValue (first (block table i j)) ≡ true
+  unfolding first
+  first-value i j h l =
+      ap isValue (block-at table i j 0 (pow-pos i))
+      ∙ every-at isValue table (pos 0) values (j * 2 ^ i + 0) (let r = part-room (2 ^ (n - i)) i j l in omega (arith, power-split n i h, pow-pos i))
+
+  -- The weight of a block is a weight.
+  pub block-weight : (i j : ℕ) → suc i ≤ n → j < 2 ^ (n - suc i) → isWeight (first (upperHalf i (block table (suc i) j)) -ℤ first (lowerHalf i (block table (suc i) j))) ≡ true
+  block-weight i j h l =
+      ap₂ (λ a b. isWeight (first a -ℤ first b)) (upper-of-block n table size i j h l) (lower-of-block table i j)
+      ∙ difference-weight (first (block table i (j * 2 + 1))) (first (block table i (j * 2)))
+      (first-value i (j * 2 + 1) (omega arith) (omega (arith, twice-blocks n i h)))
+      (first-value i (j * 2) (omega arith) (omega (arith, twice-blocks n i h)))
+
+  -- Each record fits.
+  pub record-fits : (m : ℕ) → 0 < m → m ≤ length (records n table) → recordFits n (written n table) m ≡ true
+  unfolding recordFits
+  record-fits m h l =
+      and-both (variable-fits && low-fits && high-fits) (isWeight (weightAt list m))
+      (and-both (variable-fits && low-fits) high-fits
+      (and-both variable-fits low-fits
+      (ap (within (pos 0) (pos (n - 1))) (s .variable) ∙ within-pos (n - 1) i (let p = r .lower in omega arith))
+      (ap (childFits list m) (s .low) ∙ child-fits n table m i (node n table i (lowerHalf i whole)) (r .lower) (node-below n table size i (lowerHalf i whole) (height-within n table size r) (lower-like n table size r)) later (s .variable)))
+      (ap (childFits list m) (s .high) ∙ child-fits n table m i (node n table i (upperHalf i whole)) (r .lower) (node-below n table size i (upperHalf i whole) (height-within n table size r) (upper-like n table size r)) later (s .variable)))
+      (ap isWeight (s .weight) ∙ block-weight i (r .place) (r .lower) (r .inside))
+    where
+      list : List ℤ
+      list = written n table
+
+      variable-fits : Bool
+      variable-fits = within (pos 0) (pos (n - 1)) (variableAt list m)
+
+      low-fits : Bool
+      low-fits = childFits list m (lowAt list m)
+
+      high-fits : Bool
+      high-fits = childFits list m (highAt list m)
+
+      r : RecordBlock n table m
+      r = record-block n table size m h l
+
+      i : ℕ
+      i = r .height
+
+      whole : List ℤ
+      whole = blockOf r
+
+      s : StandsFor n table m i whole
+      s = r .stands
+
+      later : recordsBelow n table i < m
+      later = let a = r .number in let b = node-branching n table i whole (r .branched) in omega arith
+
+  -- And so the list does.
+  pub list-fits : listFits n (written n table) ≡ true
+  unfolding listFits
+  list-fits =
+      and-both (eqb (length (written n table) % recordSize) 0 && leb (length (written n table)) (nodeRoom n)) (every (recordFits n (written n table)) (range 1 (recordCount (written n table))))
+      (and-both (eqb (length (written n table) % recordSize) 0) (leb (length (written n table)) (nodeRoom n))
+      (eq-eqb (length (written n table) % recordSize) 0 (written-whole n table))
+      (le-leb (length (written n table)) (nodeRoom n) (written-room n table)))
+      (every-from (recordFits n (written n table)) (range 1 (recordCount (written n table))) 0 each)
+    where
+      each : (j : ℕ) → j < length (range 1 (recordCount (written n table))) → recordFits n (written n table) (getD (range 1 (recordCount (written n table))) j 0) ≡ true
+      each j p =
+          let q : j < recordCount (written n table) = rw length-range at p in
+          ap (recordFits n (written n table)) (getD-range 1 (recordCount (written n table)) j 0 q)
+          ∙ record-fits (1 + j) (omega arith) (let c = written-count n table in omega arith)

@@ -1,0 +1,76 @@
+-- Demand 2: the records are the reduced diagram, walking them gives the table back, and equal records tell tables apart up to a constant.
+use Prim.Native.Nat.{ℕ, suc, _-_, _%_, _^_, _≤_, _<_}
+use mathlib.Core.Path.{_≡_, sym, _∙_, ap}
+use mathlib.Core.Logic.{_↔_}
+use mathlib.Core.Bool.{true}
+use mathlib.Core.List.{List, map}
+use native.Mathlib.Omega.{arith}
+use lib.ListN.{length, getD}
+use lib.IntN.{ℤ, pos, _+ℤ_, _-ℤ_}
+use Rattle.numbers.specs.Answers.{accepted}
+use Rattle.blocks.specs.Blocks.{block, first, differences}
+use Rattle.diagram.specs.Accepted.{Accepted, written, nodeFunction}
+use Rattle.diagram.specs.Build.{nodeRoom}
+use Rattle.diagram.specs.Records.{node, records, offset}
+use Rattle.diagram.specs.Walk.{variableAt, lowAt, highAt, weightAt, listFits, walk}
+use Rattle.diagram.specs.Laws.Fits.{list-fits, written-room}
+use Rattle.diagram.specs.Laws.Nodes.{root-last}
+use Rattle.diagram.specs.Laws.Numbering.{records-count, records-room}
+use Rattle.diagram.specs.Laws.RecordBlocks.{record-block}
+use Rattle.diagram.specs.Laws.Reduced.{block-differences, record-differences, not-redundant, one-function-one-node}
+use Rattle.diagram.specs.Laws.SameRecords.{same-records, records-shift}
+use Rattle.diagram.specs.Laws.Walks.{walk-records}
+
+-- ---- walking gives the table back
+
+-- The records of an accepted table pass Walk's check.
+pub records-pass : (n : ℕ) (table : List ℤ) → Accepted n table → listFits n (written n table) ≡ true
+records-pass n table a = list-fits n table (a .size) (a .values)
+
+-- Walking them gives f(X) at every X below 2^n.
+pub walk-gives-table : (n : ℕ) (table : List ℤ) → Accepted n table → (x : ℕ) → x < 2 ^ n → walk n (offset table) (written n table) x ≡ accepted (getD table x (pos 0))
+walk-gives-table = walk-records
+
+-- ---- equal records
+
+-- Two accepted tables of one n have equal records exactly when they differ by one constant.
+pub equal-records : (n : ℕ) (f g : List ℤ) → Accepted n f → Accepted n g → (records n f ≡ records n g) ↔ ((c : ℤ) × (g ≡ map (λ v. v +ℤ c) f))
+equal-records n f g a b = (
+  (λ e. (first g -ℤ first f, same-records n f g (a .size) (b .size) e)),
+  (λ d. sym (ap (records n) (d .1) ∙ records-shift n (d .0) f)),
+)
+
+-- ---- the records are the reduced diagram
+
+-- The root, the node of the whole table, is the last record, or node 0 where there is none.
+pub root-is-last : (n : ℕ) (table : List ℤ) → Accepted n table → node n table n table ≡ length (records n table)
+root-is-last n table a = root-last n table (a .size) ∙ sym (records-count n table)
+
+-- The node of block j of height i stands for the block's differences.
+pub each-block-has-node : (n : ℕ) (table : List ℤ) → Accepted n table → (i j : ℕ) → i ≤ n → j < 2 ^ (n - i) → (x : ℕ) → nodeFunction n table (node n table i (block table i j)) x ≡ getD (differences (block table i j)) (x % 2 ^ i) (pos 0)
+each-block-has-node n table a i j h l x = block-differences n table (a .size) i j x h l
+
+-- Each record stands for some block: a record of variable i for the differences of a block of height i + 1.
+pub each-record-has-block : (n : ℕ) (table : List ℤ) → Accepted n table → (k : ℕ) → 1 ≤ k → k ≤ length (records n table)
+    → (i : ℕ) × (j : ℕ) × (i < n) × (j < 2 ^ (n - suc i)) × (variableAt (written n table) k ≡ pos i) × ((x : ℕ) → nodeFunction n table k x ≡ getD (differences (block table (suc i) j)) (x % 2 ^ suc i) (pos 0))
+each-record-has-block n table a k h l =
+    let r = record-block n table (a .size) k h l in
+    (r .height, r .place, r .lower, r .inside, r .stands .variable, λ x. record-differences n table (a .size) k x r)
+
+-- No record has equal children and weight 0.
+pub no-redundant-record : (n : ℕ) (table : List ℤ) → Accepted n table → (k : ℕ) → 1 ≤ k → k ≤ length (records n table) → ¬ ((lowAt (written n table) k ≡ highAt (written n table) k) × (weightAt (written n table) k ≡ pos 0))
+no-redundant-record n table a k h l both = not-redundant n table (a .size) k (record-block n table (a .size) k h l) (both .0) (both .1)
+
+-- No two nodes, records or the terminal, stand for one function.
+pub no-two-nodes-alike : (n : ℕ) (table : List ℤ) → Accepted n table → (j k : ℕ) → j ≤ length (records n table) → k ≤ length (records n table) → ((x : ℕ) → x < 2 ^ n → nodeFunction n table j x ≡ nodeFunction n table k x) → j ≡ k
+no-two-nodes-alike n table a = one-function-one-node n table (a .size)
+
+-- ---- how many records there are
+
+-- At most 2^n - 1, for every table.
+pub records-at-most : (n : ℕ) (table : List ℤ) → length (records n table) ≤ 2 ^ n - 1
+records-at-most n table = let r = records-room n table in omega arith
+
+-- So a buffer that Build admits has room for them.
+pub buffer-has-room : (n : ℕ) (table : List ℤ) → length (written n table) ≤ nodeRoom n
+buffer-has-room = written-room

@@ -1,0 +1,49 @@
+-- Bounds of integers: tests of range passed, and differences of values.
+use Prim.Native.Nat.{ℕ, zero, suc, _+_, _≤_, max}
+use mathlib.Core.Path.{_≡_, refl}
+use mathlib.Core.Bool.{true}
+use native.Mathlib.Omega.{arith}
+use lib.Dec.{leb, ltb}
+use lib.IntN.{ℤ, pos, negsuc, natAbs, subℕ, _-ℤ_}
+use lib.Signed.{mag}
+use borrow.Author.Tests.{leb-true, le-leb, ltb-true, ltb-false}
+use Rattle.numbers.specs.Ranges.{within, isValue, isWeight}
+use Rattle.numbers.specs.Laws.Bools.{yes-or-no, both, and-both}
+
+-- A natural number up to a bound.
+pub within-pos : (bound a : ℕ) → a ≤ bound → within (pos 0) (pos bound) (pos a) ≡ true
+unfolding within
+within-pos bound a h = and-both (leb 0 a) (leb a bound) (le-leb 0 a (omega arith)) (le-leb a bound h)
+
+-- A value's magnitude.
+pub value-mag : (z : ℤ) → isValue z ≡ true → mag z ≤ 8388607
+unfolding isValue within
+value-mag (pos a) h = leb-true a 8388607 h
+value-mag (negsuc a) h = leb-true a 8388607 (both (leb a 8388607) true h .0)
+
+-- A weight, by its size.
+pub weight-of-size : (z : ℤ) → natAbs z ≤ 16777215 → isWeight z ≡ true
+unfolding isWeight within
+weight-of-size (pos a) h = le-leb a 16777215 h
+weight-of-size (negsuc a) h = and-both (leb a 16777214) true (le-leb a 16777214 (omega arith)) refl
+
+-- The size of a difference of two natural numbers.
+sub-size : (a b : ℕ) → natAbs (subℕ a b) ≤ max a b
+sub-size a b =
+    yes-or-no (ltb a b)
+    (λ e. rw e (let h = ltb-true a b e in omega arith))
+    (λ e. rw e (let h = ltb-false a b e in omega arith))
+
+-- The size of a difference.
+pub difference-size : (a b : ℤ) → natAbs (a -ℤ b) ≤ suc (mag a + mag b)
+difference-size (pos a) (pos zero) = omega arith
+difference-size (pos a) (pos (suc b)) = let h = sub-size a (suc b) in omega arith
+difference-size (pos a) (negsuc b) = omega arith
+difference-size (negsuc a) (pos zero) = let h = sub-size 0 (suc a) in omega arith
+difference-size (negsuc a) (pos (suc b)) = omega arith
+difference-size (negsuc a) (negsuc b) = let h = sub-size (suc b) (suc a) in omega arith
+
+-- The difference of two values is a weight.
+pub difference-weight : (a b : ℤ) → isValue a ≡ true → isValue b ≡ true → isWeight (a -ℤ b) ≡ true
+difference-weight a b h k =
+    weight-of-size (a -ℤ b) (let p = value-mag a h in let q = value-mag b k in let r = difference-size a b in omega arith)

@@ -1,0 +1,132 @@
+-- Lists made from lists: what passes a test, lists joined end to end, runs in two parts.
+use Prim.Native.Nat.{ℕ, zero, suc, _+_, _*_, _≤_, _<_}
+use mathlib.Core.Path.{_≡_, refl, sym, _∙_, ap, ap₂}
+use mathlib.Core.Bool.{Bool, true, false}
+use mathlib.Core.List.{List, [], _∷_, _++_, map, flatMap, append-assoc}
+use native.Mathlib.Nat.{add-zero, add-suc, suc-add, zero-add, mul-zero, mul-suc}
+use native.Mathlib.Omega.{arith}
+use lib.ListN.{length, getD, length-append, List·getD-append}
+use lib.Seq.{getD-append-add}
+use Rattle.numbers.specs.Lists.{range, keep}
+use Rattle.numbers.specs.Laws.Bools.{yes-or-no}
+
+-- ---- what passes a test
+
+module _ {A : Type 0} (test : A → Bool) where
+  -- The first element is kept, or not.
+  pub keep-passed : (x : A) (l : List A) → test x ≡ true → keep test (x ∷ l) ≡ x ∷ keep test l
+  unfolding keep
+  keep-passed x l e = rw (e, keep)
+
+  pub keep-failed : (x : A) (l : List A) → test x ≡ false → keep test (x ∷ l) ≡ keep test l
+  unfolding keep
+  keep-failed x l e = rw (e, keep)
+
+  -- No more are kept than there are.
+  pub keep-length : (l : List A) → length (keep test l) ≤ length l
+  unfolding keep
+  keep-length [] = omega arith
+  keep-length (x ∷ l) =
+      yes-or-no (test x)
+      (λ e. rw (keep-passed x l e) (let h = keep-length l in omega arith))
+      (λ e. rw (keep-failed x l e) (let h = keep-length l in omega arith))
+
+  -- What is kept passes the test.
+  pub kept-passes : (l : List A) (a : A) (k : ℕ) → k < length (keep test l) → test (getD (keep test l) k a) ≡ true
+  unfolding keep
+  kept-passes [] a k h = absurd (omega arith)
+  kept-passes (x ∷ l) a k h =
+      yes-or-no (test x)
+      (λ e. rw (keep-passed x l e) (here-or-later e k (rw (keep-passed x l e) at h) (λ m p. kept-passes l a m p)))
+      (λ e. rw (keep-failed x l e) (kept-passes l a k (rw (keep-failed x l e) at h)))
+    where
+      here-or-later : test x ≡ true → (m : ℕ) → m < suc (length (keep test l)) → ((m : ℕ) → m < length (keep test l) → test (getD (keep test l) m a) ≡ true) → test (getD (x ∷ keep test l) m a) ≡ true
+      here-or-later e zero p later = e
+      here-or-later e (suc m) p later = later m (omega arith)
+
+  -- What is kept was in the list.
+  pub kept-from : (l : List A) (a : A) (k : ℕ) → k < length (keep test l) → (j : ℕ) × ((j < length l) × (getD l j a ≡ getD (keep test l) k a))
+  unfolding keep
+  kept-from [] a k h = absurd (omega arith)
+  kept-from (x ∷ l) a k h =
+      yes-or-no (test x)
+      (λ e. rw (keep-passed x l e) (here-or-later k (rw (keep-passed x l e) at h) (λ m p. kept-from l a m p)))
+      (λ e. rw (keep-failed x l e) (let r = kept-from l a k (rw (keep-failed x l e) at h) in (suc (r .0), (omega arith, r .1 .1))))
+    where
+      here-or-later : (m : ℕ) → m < suc (length (keep test l)) → ((m : ℕ) → m < length (keep test l) → (j : ℕ) × ((j < length l) × (getD l j a ≡ getD (keep test l) m a))) → (j : ℕ) × ((j < suc (length l)) × (getD (x ∷ l) j a ≡ getD (x ∷ keep test l) m a))
+      here-or-later zero p later = (0, (omega arith, refl))
+      here-or-later (suc m) p later = let r = later m (omega arith) in (suc (r .0), (omega arith, r .1 .1))
+
+  -- What passes the test is kept.
+  pub passed-kept : (l : List A) (a : A) (j : ℕ) → j < length l → test (getD l j a) ≡ true → (k : ℕ) × ((k < length (keep test l)) × (getD (keep test l) k a ≡ getD l j a))
+  unfolding keep
+  passed-kept [] a j h e = absurd (omega arith)
+  passed-kept (x ∷ l) a zero h e = rw (keep-passed x l e) (0, (omega arith, refl))
+  passed-kept (x ∷ l) a (suc j) h e =
+      let r = passed-kept l a j (omega arith) e in
+      yes-or-no (test x)
+      (λ t. rw (keep-passed x l t) (suc (r .0), (omega arith, r .1 .1)))
+      (λ t. rw (keep-failed x l t) r)
+
+  -- Where nothing passes, nothing is kept.
+  pub keep-none : (l : List A) (a : A) → ((j : ℕ) → j < length l → test (getD l j a) ≡ false) → keep test l ≡ []
+  unfolding keep
+  keep-none [] a h = refl
+  keep-none (x ∷ l) a h = keep-failed x l (h 0 (omega arith)) ∙ keep-none l a (λ j p. h (suc j) (omega arith))
+
+-- Elements changed in a way that the test does not see.
+pub keep-map : {A : Type 0} (test : A → Bool) (f : A → A) (l : List A) → ((a : A) → test (f a) ≡ test a) → keep test (map f l) ≡ map f (keep test l)
+unfolding keep
+keep-map test f [] h = refl
+keep-map test f (x ∷ l) h =
+    yes-or-no (test x)
+    (λ e. keep-passed test (f x) (map f l) (h x ∙ e) ∙ ap (λ m. f x ∷ m) (keep-map test f l h) ∙ ap (map f) (sym (keep-passed test x l e)))
+    (λ e. keep-failed test (f x) (map f l) (h x ∙ e) ∙ keep-map test f l h ∙ ap (map f) (sym (keep-failed test x l e)))
+
+-- ---- lists joined end to end
+
+module _ {A B : Type 0} (f : A → List B) where
+  -- The parts of two lists.
+  pub flatMap-append : (left right : List A) → flatMap f (left ++ right) ≡ flatMap f left ++ flatMap f right
+  unfolding flatMap
+  flatMap-append [] right = refl
+  flatMap-append (x ∷ left) right = ap (λ m. f x ++ m) (flatMap-append left right) ∙ sym (append-assoc (f x) (flatMap f left) (flatMap f right))
+
+  -- Parts of one size.
+  module _ (size : ℕ) (each : (a : A) → length (f a) ≡ size) where
+    -- So many times that size.
+    pub length-flatMap : (l : List A) → length (flatMap f l) ≡ size * length l
+    unfolding flatMap
+    length-flatMap [] = sym (mul-zero size)
+    length-flatMap (x ∷ l) =
+        let h = length-flatMap l in
+        let e = each x in
+        length-append (f x) (flatMap f l) ∙ (let s : length (f x) + length (flatMap f l) ≡ size * suc (length l) = omega (arith, mul-suc size (length l)) in s)
+
+    -- Element c of part k.
+    pub getD-flatMap : (l : List A) (a : A) (b : B) (k c : ℕ) → k < length l → c < size → getD (flatMap f l) (size * k + c) b ≡ getD (f (getD l k a)) c b
+    unfolding flatMap
+    getD-flatMap [] a b k c h m = absurd (omega arith)
+    getD-flatMap (x ∷ l) a b zero c h m =
+        ap (λ p. getD (f x ++ flatMap f l) p b) (let e : size * 0 + c ≡ c = omega (arith, mul-zero size) in e)
+        ∙ List·getD-append (f x) (flatMap f l) b c (let e = each x in omega arith)
+    getD-flatMap (x ∷ l) a b (suc k) c h m =
+        ap (λ p. getD (f x ++ flatMap f l) p b) (let e = each x in let s : size * suc k + c ≡ length (f x) + (size * k + c) = omega (arith, mul-suc size k) in s)
+        ∙ getD-append-add (f x) (flatMap f l) (size * k + c) b
+        ∙ getD-flatMap l a b k c (omega arith) m
+
+-- Equal parts.
+pub flatMap-same : {A B : Type 0} (f g : A → List B) (l : List A) → ((a : A) → f a ≡ g a) → flatMap f l ≡ flatMap g l
+unfolding flatMap
+flatMap-same f g [] h = refl
+flatMap-same f g (x ∷ l) h = ap₂ (λ p m. p ++ m) (h x) (flatMap-same f g l h)
+
+-- ---- runs in two parts
+
+-- A run is its first numbers and those from there on.
+pub range-add : (start left right : ℕ) → range start (left + right) ≡ range start left ++ range (start + left) right
+unfolding range
+range-add start zero right = ap₂ range (sym (add-zero start)) (zero-add right)
+range-add start (suc left) right =
+    ap (range start) (suc-add left right)
+    ∙ ap (λ l. start ∷ l) (range-add (suc start) left right ∙ ap (λ m. range (suc start) left ++ range m right) (suc-add start left ∙ sym (add-suc start left)))

@@ -4,4 +4,5 @@ pub mod Integers
 pub mod Least
 pub mod Lists
 pub mod Powers
+pub mod Sums
 pub mod Widths

@@ -1,0 +1,155 @@
+-- The groupings of n are all lists of sizes at least 1 with sum n, each once.
+use Prim.Native.Nat.{ℕ, zero, suc, _+_, _-_, _≤_}
+use mathlib.Core.Path.{_≡_, refl, sym, _∙_, ap, ap₂}
+use mathlib.Core.Bool.{Bool, true, false, _&&_, cond, false≢true}
+use mathlib.Core.List.{List, [], _∷_, map, flatMap}
+use native.Mathlib.Nat.{add-zero, zero-add}
+use native.Mathlib.Omega.{arith}
+use lib.Dec.{leb, eqb}
+use borrow.Author.Tests.{leb-true, leb-false, le-leb, lt-leb, eqb-true, eqb-false, eq-eqb, ne-eqb}
+use Rattle.numbers.specs.Lists.{every, keep, tally, sum}
+use Rattle.numbers.specs.Laws.Bools.{yes-or-no, both, and-both}
+use Rattle.numbers.specs.Laws.Sums.{tally-append, tally-none, tally-map, tally-same}
+use Rattle.compiler.specs.Groupings.{descending, closing, groupingsWithin, groupings}
+use Rattle.compiler.specs.Sizes.{sameSizes, isGrouping, occurrences}
+
+-- ---- equal lists of sizes
+
+pub same-sizes-true : (left right : List ℕ) → sameSizes left right ≡ true → left ≡ right
+unfolding sameSizes
+same-sizes-true [] [] h = refl
+same-sizes-true [] (b ∷ right) h = absurd (false≢true h)
+same-sizes-true (a ∷ left) [] h = absurd (false≢true h)
+same-sizes-true (a ∷ left) (b ∷ right) h =
+    let parts = both (eqb a b) (sameSizes left right) h in
+    ap₂ (λ x l. x ∷ l) (eqb-true a b (parts .0)) (same-sizes-true left right (parts .1))
+
+pub same-sizes-refl : (sizes : List ℕ) → sameSizes sizes sizes ≡ true
+unfolding sameSizes
+same-sizes-refl [] = refl
+same-sizes-refl (a ∷ sizes) = and-both (eqb a a) (sameSizes sizes sizes) (eq-eqb a a refl) (same-sizes-refl sizes)
+
+-- ---- what a grouping is, size by size
+
+-- A sum is m where one part is at most m and the other is what is left.
+sum-is : (a s m : ℕ) → eqb (a + s) m ≡ (leb a m && eqb s (m - a))
+sum-is a s m =
+    yes-or-no (eqb (a + s) m)
+    (λ e. let p = eqb-true (a + s) m e in e ∙ sym (and-both (leb a m) (eqb s (m - a)) (le-leb a m (omega arith)) (eq-eqb s (m - a) (omega arith))))
+    (λ e.
+    yes-or-no (leb a m)
+    (λ l. e ∙ sym (ne-eqb s (m - a) (λ q. eqb-false (a + s) m e (let h = leb-true a m l in omega arith))) ∙ rw l)
+    (λ l. rw l e))
+
+-- Four tests, the inner two the other way round.
+swap-inner : (p q u v : Bool) → (p && q && (u && v)) ≡ (p && u && (q && v))
+swap-inner false q u v = refl
+swap-inner true true true v = refl
+swap-inner true true false v = refl
+swap-inner true false true v = refl
+swap-inner true false false v = refl
+
+-- The rest of a grouping is a grouping of the variables left.
+pub grouping-cons : (m a : ℕ) (rest : List ℕ) → isGrouping m (a ∷ rest) ≡ (leb 1 a && leb a m && isGrouping (m - a) rest)
+unfolding isGrouping every sum
+grouping-cons m a rest =
+    ap (λ t. leb 1 a && every (leb 1) rest && t) (sum-is a (sum rest) m)
+    ∙ swap-inner (leb 1 a) (every (leb 1) rest) (leb a m) (eqb (sum rest) (m - a))
+
+-- The list of no sizes is a grouping of no variable, and of no more.
+pub grouping-nil : (m : ℕ) → isGrouping m [] ≡ eqb 0 m
+unfolding isGrouping every sum
+grouping-nil m = refl
+
+-- ---- occurrences, piece by piece
+
+-- Lists with one first size.
+occurrences-prefixed : (a g : ℕ) (rest : List ℕ) (l : List (List ℕ)) → occurrences (a ∷ rest) (map (λ sizes. g ∷ sizes) l) ≡ cond (eqb a g) (occurrences rest l) 0
+unfolding occurrences sameSizes
+occurrences-prefixed a g rest l =
+    yes-or-no (eqb a g)
+    (λ e. tally-map (λ sizes. g ∷ sizes) (sameSizes (a ∷ rest)) l ∙ tally-same (λ sizes. eqb a g && sameSizes rest sizes) (sameSizes rest) l (λ sizes. rw e) ∙ rw e)
+    (λ e. tally-map (λ sizes. g ∷ sizes) (sameSizes (a ∷ rest)) l ∙ tally-none (λ sizes. eqb a g && sameSizes rest sizes) l (λ sizes. rw e) ∙ rw e)
+
+-- One more size from the top: it is the size asked for, or the others decide.
+one-more-size : (a b : ℕ) (count : ℕ → ℕ) → cond (eqb a (suc b)) (count (suc b)) 0 + cond (leb 1 a && leb a b) (count a) 0 ≡ cond (leb 1 a && leb a (suc b)) (count a) 0
+one-more-size a b count = yes-or-no (eqb a (suc b)) here below
+  where
+    here : eqb a (suc b) ≡ true → cond (eqb a (suc b)) (count (suc b)) 0 + cond (leb 1 a && leb a b) (count a) 0 ≡ cond (leb 1 a && leb a (suc b)) (count a) 0
+    here e =
+        let p : a ≡ suc b = eqb-true a (suc b) e in
+        rw (e, lt-leb a b (omega arith), le-leb 1 a (omega arith), le-leb a (suc b) (omega arith)) (add-zero (count (suc b)) ∙ ap count (sym p))
+
+    same-below : eqb a (suc b) ≡ false → leb a b ≡ leb a (suc b)
+    same-below e =
+        yes-or-no (leb a b)
+        (λ l. let h = leb-true a b l in l ∙ sym (le-leb a (suc b) (omega arith)))
+        (λ l. let h = leb-false a b l in l ∙ sym (lt-leb a (suc b) (let ne : a ≡ suc b → ⊥ = eqb-false a (suc b) e in omega arith)))
+
+    below : eqb a (suc b) ≡ false → cond (eqb a (suc b)) (count (suc b)) 0 + cond (leb 1 a && leb a b) (count a) 0 ≡ cond (leb 1 a && leb a (suc b)) (count a) 0
+    below e = rw (e, same-below e) (zero-add (cond (leb 1 a && leb a (suc b)) (count a) 0))
+
+-- Where no variable is left there is no size.
+no-size : (m a : ℕ) → m ≤ 0 → (leb 1 a && leb a m) ≡ false
+no-size m a l =
+    yes-or-no (leb 1 a)
+    (λ e. let h = leb-true 1 a e in rw e (lt-leb a m (omega arith)))
+    (λ e. rw e)
+
+-- Lists with a first size from b down to 1: those after the size asked for.
+occurrences-descending : (a b : ℕ) (rest : List ℕ) (after : ℕ → List (List ℕ)) → occurrences (a ∷ rest) (flatMap (λ g. map (λ sizes. g ∷ sizes) (after g)) (descending b)) ≡ cond (leb 1 a && leb a b) (occurrences rest (after a)) 0
+unfolding flatMap descending occurrences tally keep
+occurrences-descending a zero rest after = rw (no-size 0 a (omega arith))
+occurrences-descending a (suc b) rest after =
+    tally-append (sameSizes (a ∷ rest)) (map (λ sizes. suc b ∷ sizes) (after (suc b))) (flatMap (λ g. map (λ sizes. g ∷ sizes) (after g)) (descending b))
+    ∙ ap₂ (λ x y. x + y) (occurrences-prefixed a (suc b) rest (after (suc b))) (occurrences-descending a b rest after)
+    ∙ one-more-size a b (λ g. occurrences rest (after g))
+
+-- The list of no sizes has no first size.
+occurrences-empty : (b : ℕ) (after : ℕ → List (List ℕ)) → occurrences [] (flatMap (λ g. map (λ sizes. g ∷ sizes) (after g)) (descending b)) ≡ 0
+unfolding flatMap descending occurrences tally keep sameSizes
+occurrences-empty zero after = refl
+occurrences-empty (suc b) after =
+    tally-append (sameSizes []) (map (λ sizes. suc b ∷ sizes) (after (suc b))) (flatMap (λ g. map (λ sizes. g ∷ sizes) (after g)) (descending b))
+    ∙ ap₂ (λ x y. x + y) (tally-map (λ sizes. suc b ∷ sizes) (sameSizes []) (after (suc b)) ∙ tally-none (λ sizes. false) (after (suc b)) (λ sizes. refl)) (occurrences-empty b after)
+
+-- ---- each grouping once
+
+-- The list of no sizes stands where no variable is left.
+closing-empty : (m : ℕ) → occurrences [] (closing m) ≡ cond (isGrouping m []) 1 0
+unfolding closing occurrences tally keep sameSizes
+closing-empty zero = rw (grouping-nil 0)
+closing-empty (suc m) = rw (grouping-nil (suc m), ne-eqb 0 (suc m) (λ e. omega arith))
+
+closing-other : (m a : ℕ) (rest : List ℕ) → occurrences (a ∷ rest) (closing m) ≡ 0
+unfolding closing occurrences tally keep sameSizes
+closing-other zero a rest = refl
+closing-other (suc m) a rest = refl
+
+-- A list within the variables: its first size is within them, and the rest is a grouping of those left.
+grouping-first : (m a : ℕ) (rest : List ℕ) (count : ℕ) → (1 ≤ a → a ≤ m → count ≡ cond (isGrouping (m - a) rest) 1 0) → cond (leb 1 a && leb a m) count 0 ≡ cond (isGrouping m (a ∷ rest)) 1 0
+grouping-first m a rest count h =
+    rw (grouping-cons m a rest)
+    (yes-or-no (leb 1 a && leb a m)
+    (λ e. let parts = both (leb 1 a) (leb a m) e in rw e (h (leb-true 1 a (parts .0)) (leb-true a m (parts .1))))
+    (λ e. rw e))
+
+-- Once where it is a grouping, else never; as many sizes as variables are enough.
+once-within : (groups m : ℕ) (sizes : List ℕ) → m ≤ groups → occurrences sizes (groupingsWithin groups m) ≡ cond (isGrouping m sizes) 1 0
+unfolding groupingsWithin occurrences
+once-within zero m [] h = closing-empty m
+once-within zero m (a ∷ rest) h = closing-other m a rest ∙ rw (no-size m a h) at (grouping-first m a rest 0 (λ p q. absurd (omega arith)))
+once-within (suc groups) m [] h =
+    tally-append (sameSizes []) (closing m) (flatMap (λ g. map (λ sizes. g ∷ sizes) (groupingsWithin groups (m - g))) (descending m))
+    ∙ ap₂ (λ x y. x + y) (closing-empty m) (occurrences-empty m (λ g. groupingsWithin groups (m - g)))
+    ∙ add-zero (cond (isGrouping m []) 1 0)
+once-within (suc groups) m (a ∷ rest) h =
+    tally-append (sameSizes (a ∷ rest)) (closing m) (flatMap (λ g. map (λ sizes. g ∷ sizes) (groupingsWithin groups (m - g))) (descending m))
+    ∙ ap₂ (λ x y. x + y) (closing-other m a rest) (occurrences-descending a m rest (λ g. groupingsWithin groups (m - g)))
+    ∙ zero-add (cond (leb 1 a && leb a m) (occurrences rest (groupingsWithin groups (m - a))) 0)
+    ∙ grouping-first m a rest (occurrences rest (groupingsWithin groups (m - a))) (λ p q. once-within groups (m - a) rest (omega arith))
+
+-- The groupings of n (the paper's term): each list of sizes at least 1 with sum n stands there once, and no other list.
+pub groupings-once : (n : ℕ) (sizes : List ℕ) → occurrences sizes (groupings n) ≡ cond (isGrouping n sizes) 1 0
+unfolding groupings
+groupings-once n sizes = once-within n n sizes (omega arith)

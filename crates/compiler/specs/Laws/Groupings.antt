@@ -1,17 +1,18 @@
--- The groupings of n are all lists of sizes at least 1 with sum n, each once.
-use Prim.Native.Nat.{ℕ, zero, suc, _+_, _-_, _≤_}
+-- The groupings of n are all lists of sizes at least 1 with sum n, each once, and they stand widest first.
+use Prim.Native.Nat.{ℕ, zero, suc, _+_, _-_, _≤_, _<_}
 use mathlib.Core.Path.{_≡_, refl, sym, _∙_, ap, ap₂}
+use mathlib.Core.Logic.{_⊎_, inl, inr}
 use mathlib.Core.Bool.{Bool, true, false, _&&_, cond, false≢true}
-use mathlib.Core.List.{List, [], _∷_, map, flatMap}
+use mathlib.Core.List.{List, [], _∷_, _++_, map, flatMap, List·Memᴰ, List·Memᴰ·head, List·Memᴰ·tail, List·Memᴰ·not-nil, List·Memᴰ·append-cases, Memᴰ·of-map}
 use native.Mathlib.Nat.{add-zero, zero-add}
 use native.Mathlib.Omega.{arith}
-use lib.Dec.{leb, eqb}
-use borrow.Author.Tests.{leb-true, leb-false, le-leb, lt-leb, eqb-true, eqb-false, eq-eqb, ne-eqb}
+use lib.Dec.{leb, ltb, eqb}
+use borrow.Author.Tests.{ltb-true, lt-ltb, le-ltb, leb-true, leb-false, le-leb, lt-leb, eqb-true, eqb-false, eq-eqb, ne-eqb}
 use Rattle.numbers.specs.Lists.{every, keep, tally, sum}
 use Rattle.numbers.specs.Laws.Bools.{yes-or-no, both, and-both}
-use Rattle.numbers.specs.Laws.Sums.{tally-append, tally-none, tally-map, tally-same}
+use Rattle.numbers.specs.Laws.Sums.{keep-passed, keep-failed, kept-among, tally-passed, tally-failed, tally-append, tally-none, tally-map, tally-same}
 use Rattle.compiler.specs.Groupings.{descending, closing, groupingsWithin, groupings}
-use Rattle.compiler.specs.Sizes.{sameSizes, isGrouping, occurrences}
+use Rattle.compiler.specs.Sizes.{sameSizes, isGrouping, occurrences, widerFirst}
 
 -- ---- equal lists of sizes
 
@@ -63,6 +64,10 @@ grouping-nil m = refl
 
 -- ---- occurrences, piece by piece
 
+-- The lists that begin with a size from b down to 1, each size before the lists that may follow it.
+abbrev pub startingTo : ℕ → (ℕ → List (List ℕ)) → List (List ℕ)
+startingTo b after = flatMap (λ g. map (λ sizes. g ∷ sizes) (after g)) (descending b)
+
 -- Lists with one first size.
 occurrences-prefixed : (a g : ℕ) (rest : List ℕ) (l : List (List ℕ)) → occurrences (a ∷ rest) (map (λ sizes. g ∷ sizes) l) ≡ cond (eqb a g) (occurrences rest l) 0
 unfolding occurrences sameSizes
@@ -97,20 +102,20 @@ no-size m a l =
     (λ e. rw e)
 
 -- Lists with a first size from b down to 1: those after the size asked for.
-occurrences-descending : (a b : ℕ) (rest : List ℕ) (after : ℕ → List (List ℕ)) → occurrences (a ∷ rest) (flatMap (λ g. map (λ sizes. g ∷ sizes) (after g)) (descending b)) ≡ cond (leb 1 a && leb a b) (occurrences rest (after a)) 0
+occurrences-descending : (a b : ℕ) (rest : List ℕ) (after : ℕ → List (List ℕ)) → occurrences (a ∷ rest) (startingTo b after) ≡ cond (leb 1 a && leb a b) (occurrences rest (after a)) 0
 unfolding flatMap descending occurrences tally keep
 occurrences-descending a zero rest after = rw (no-size 0 a (omega arith))
 occurrences-descending a (suc b) rest after =
-    tally-append (sameSizes (a ∷ rest)) (map (λ sizes. suc b ∷ sizes) (after (suc b))) (flatMap (λ g. map (λ sizes. g ∷ sizes) (after g)) (descending b))
+    tally-append (sameSizes (a ∷ rest)) (map (λ sizes. suc b ∷ sizes) (after (suc b))) (startingTo b after)
     ∙ ap₂ (λ x y. x + y) (occurrences-prefixed a (suc b) rest (after (suc b))) (occurrences-descending a b rest after)
     ∙ one-more-size a b (λ g. occurrences rest (after g))
 
 -- The list of no sizes has no first size.
-occurrences-empty : (b : ℕ) (after : ℕ → List (List ℕ)) → occurrences [] (flatMap (λ g. map (λ sizes. g ∷ sizes) (after g)) (descending b)) ≡ 0
+occurrences-empty : (b : ℕ) (after : ℕ → List (List ℕ)) → occurrences [] (startingTo b after) ≡ 0
 unfolding flatMap descending occurrences tally keep sameSizes
 occurrences-empty zero after = refl
 occurrences-empty (suc b) after =
-    tally-append (sameSizes []) (map (λ sizes. suc b ∷ sizes) (after (suc b))) (flatMap (λ g. map (λ sizes. g ∷ sizes) (after g)) (descending b))
+    tally-append (sameSizes []) (map (λ sizes. suc b ∷ sizes) (after (suc b))) (startingTo b after)
     ∙ ap₂ (λ x y. x + y) (tally-map (λ sizes. suc b ∷ sizes) (sameSizes []) (after (suc b)) ∙ tally-none (λ sizes. false) (after (suc b)) (λ sizes. refl)) (occurrences-empty b after)
 
 -- ---- each grouping once
@@ -140,11 +145,11 @@ unfolding groupingsWithin occurrences
 once-within zero m [] h = closing-empty m
 once-within zero m (a ∷ rest) h = closing-other m a rest ∙ rw (no-size m a h) at (grouping-first m a rest 0 (λ p q. absurd (omega arith)))
 once-within (suc groups) m [] h =
-    tally-append (sameSizes []) (closing m) (flatMap (λ g. map (λ sizes. g ∷ sizes) (groupingsWithin groups (m - g))) (descending m))
+    tally-append (sameSizes []) (closing m) (startingTo m (λ g. groupingsWithin groups (m - g)))
     ∙ ap₂ (λ x y. x + y) (closing-empty m) (occurrences-empty m (λ g. groupingsWithin groups (m - g)))
     ∙ add-zero (cond (isGrouping m []) 1 0)
 once-within (suc groups) m (a ∷ rest) h =
-    tally-append (sameSizes (a ∷ rest)) (closing m) (flatMap (λ g. map (λ sizes. g ∷ sizes) (groupingsWithin groups (m - g))) (descending m))
+    tally-append (sameSizes (a ∷ rest)) (closing m) (startingTo m (λ g. groupingsWithin groups (m - g)))
     ∙ ap₂ (λ x y. x + y) (closing-other m a rest) (occurrences-descending a m rest (λ g. groupingsWithin groups (m - g)))
     ∙ zero-add (cond (leb 1 a && leb a m) (occurrences rest (groupingsWithin groups (m - a))) 0)
     ∙ grouping-first m a rest (occurrences rest (groupingsWithin groups (m - a))) (λ p q. once-within groups (m - a) rest (omega arith))
@@ -153,3 +158,126 @@ once-within (suc groups) m (a ∷ rest) h =
 pub groupings-once : (n : ℕ) (sizes : List ℕ) → occurrences sizes (groupings n) ≡ cond (isGrouping n sizes) 1 0
 unfolding groupings
 groupings-once n sizes = once-within n n sizes (omega arith)
+
+-- ---- what is among the groupings
+
+-- What occurs is among the lists.
+occurs-among : (sizes : List ℕ) (l : List (List ℕ)) → 1 ≤ occurrences sizes l → List·Memᴰ sizes l
+unfolding occurrences tally keep
+occurs-among sizes [] h = absurd (omega arith)
+occurs-among sizes (x ∷ l) h =
+    yes-or-no (sameSizes sizes x)
+    (λ e. List·Memᴰ·head (same-sizes-true sizes x e))
+    (λ e. List·Memᴰ·tail (occurs-among sizes l (rw (tally-failed (sameSizes sizes) x l e) at h)))
+
+-- What is among the lists occurs.
+among-occurs : {sizes : List ℕ} {l : List (List ℕ)} → List·Memᴰ sizes l → 1 ≤ occurrences sizes l
+unfolding occurrences
+among-occurs {sizes} (List·Memᴰ·head {x = x} {xs = l} e) =
+    rw (tally-passed (sameSizes sizes) x l (ap (sameSizes sizes) (sym e) ∙ same-sizes-refl sizes)) (omega arith)
+among-occurs {sizes} (List·Memᴰ·tail {x = x} {xs = l} m) =
+    yes-or-no (sameSizes sizes x)
+    (λ e. rw (tally-passed (sameSizes sizes) x l e) (omega arith))
+    (λ e. rw (tally-failed (sameSizes sizes) x l e) (among-occurs m))
+
+pub grouping-among : (n : ℕ) (sizes : List ℕ) → isGrouping n sizes ≡ true → List·Memᴰ sizes (groupings n)
+grouping-among n sizes h = occurs-among sizes (groupings n) (rw (groupings-once n sizes, h) (omega arith))
+
+pub among-grouping : (n : ℕ) (sizes : List ℕ) → List·Memᴰ sizes (groupings n) → isGrouping n sizes ≡ true
+among-grouping n sizes m =
+    yes-or-no (isGrouping n sizes)
+    (λ e. e)
+    (λ e. absurd (let h : 1 ≤ 0 = rw (groupings-once n sizes, e) at (among-occurs m) in omega arith))
+
+-- ---- the wider first
+
+wider-here : (a b : ℕ) (left right : List ℕ) → b < a → widerFirst (a ∷ left) (b ∷ right) ≡ true
+unfolding widerFirst
+wider-here a b left right h = rw (lt-ltb b a h)
+
+wider-later : (a : ℕ) (left right : List ℕ) → widerFirst (a ∷ left) (a ∷ right) ≡ widerFirst left right
+unfolding widerFirst
+wider-later a left right = rw (le-ltb a a (omega arith), eq-eqb a a refl)
+
+-- Of two lists at most one is the wider first.
+pub wider-one-way : (left right : List ℕ) → widerFirst left right ≡ true → widerFirst right left ≡ true → ⊥
+unfolding widerFirst
+wider-one-way [] right h k = false≢true h
+wider-one-way (a ∷ left) [] h k = false≢true h
+wider-one-way (a ∷ left) (b ∷ right) h k =
+    yes-or-no (ltb b a)
+    (λ e. let p = ltb-true b a e in false≢true (rw (le-ltb a b (omega arith), ne-eqb b a (λ q. omega arith)) at k))
+    (λ e.
+    let parts = both (eqb a b) (widerFirst left right) (rw e at h) in
+    let p = eqb-true a b (parts .0) in
+    wider-one-way left right (parts .1) (rw (le-ltb a b (omega arith), eq-eqb b a (omega arith)) at k))
+
+-- ---- the order of the groupings
+
+-- Each list is wider first than those after it.
+unfoldable pub WidestFirst : List (List ℕ) → Type 0
+WidestFirst [] = Unit {0}
+WidestFirst (sizes ∷ l) = ((other : List ℕ) → List·Memᴰ other l → widerFirst sizes other ≡ true) × WidestFirst l
+
+widest-append : (l more : List (List ℕ)) → WidestFirst l → WidestFirst more → ((left right : List ℕ) → List·Memᴰ left l → List·Memᴰ right more → widerFirst left right ≡ true) → WidestFirst (l ++ more)
+unfolding WidestFirst
+widest-append [] more h k across = k
+widest-append (sizes ∷ l) more h k across = (
+  (λ other m. earlier-or-later other (List·Memᴰ·append-cases l m)),
+  widest-append l more (h .1) k (λ left right p q. across left right (List·Memᴰ·tail p) q),
+)
+  where
+    earlier-or-later : (other : List ℕ) → List·Memᴰ other l ⊎ List·Memᴰ other more → widerFirst sizes other ≡ true
+    earlier-or-later other (inl p) = h .0 other p
+    earlier-or-later other (inr q) = across sizes other (List·Memᴰ·head refl) q
+
+-- One first size before them all keeps the order.
+widest-prefixed : (g : ℕ) (l : List (List ℕ)) → WidestFirst l → WidestFirst (map (λ sizes. g ∷ sizes) l)
+unfolding WidestFirst
+widest-prefixed g [] h = tt
+widest-prefixed g (sizes ∷ l) h = (
+  (λ other m. let r = Memᴰ·of-map (λ sizes. g ∷ sizes) l m in ap (widerFirst (g ∷ sizes)) (sym (r .2)) ∙ wider-later g sizes (r .0) ∙ h .0 (r .0) (r .1)),
+  widest-prefixed g l (h .1),
+)
+
+-- Lists with a first size from b down to 1 begin with a size up to b.
+first-size : (b : ℕ) (after : ℕ → List (List ℕ)) (sizes : List ℕ) → List·Memᴰ sizes (startingTo b after) → (g : ℕ) × (rest : List ℕ) × (g ≤ b) × (g ∷ rest ≡ sizes)
+unfolding flatMap descending
+first-size zero after sizes m = absurd (List·Memᴰ·not-nil m)
+first-size (suc b) after sizes m = widest-or-less (first-size b after sizes) (List·Memᴰ·append-cases (map (λ rest. suc b ∷ rest) (after (suc b))) m)
+  where
+    widest-or-less : (List·Memᴰ sizes (startingTo b after) → (g : ℕ) × (rest : List ℕ) × (g ≤ b) × (g ∷ rest ≡ sizes)) → List·Memᴰ sizes (map (λ rest. suc b ∷ rest) (after (suc b))) ⊎ List·Memᴰ sizes (startingTo b after) → (g : ℕ) × (rest : List ℕ) × (g ≤ suc b) × (g ∷ rest ≡ sizes)
+    widest-or-less less (inl p) = let r = Memᴰ·of-map (λ rest. suc b ∷ rest) (after (suc b)) p in (suc b, r .0, omega arith, r .2)
+    widest-or-less less (inr q) = let r = less q in (r .0, r .1, (let h = r .2 in omega arith), r .3)
+
+widest-descending : (b : ℕ) (after : ℕ → List (List ℕ)) → ((g : ℕ) → WidestFirst (after g)) → WidestFirst (startingTo b after)
+unfolding flatMap descending WidestFirst
+widest-descending zero after h = tt
+widest-descending (suc b) after h = widest-append (map (λ rest. suc b ∷ rest) (after (suc b))) (startingTo b after) (widest-prefixed (suc b) (after (suc b)) (h (suc b))) (widest-descending b after h) across
+  where
+    across : (left right : List ℕ) → List·Memᴰ left (map (λ rest. suc b ∷ rest) (after (suc b))) → List·Memᴰ right (startingTo b after) → widerFirst left right ≡ true
+    across left right p q =
+        let l = Memᴰ·of-map (λ rest. suc b ∷ rest) (after (suc b)) p in
+        let r = first-size b after right q in
+        rw (← l .2, ← r .3) (wider-here (suc b) (r .0) (l .0) (r .1) (let h = r .2 in omega arith))
+
+widest-within : (groups m : ℕ) → WidestFirst (groupingsWithin groups m)
+unfolding groupingsWithin closing WidestFirst flatMap descending
+widest-within zero zero = ((λ other m. absurd (List·Memᴰ·not-nil m)), tt)
+widest-within zero (suc m) = tt
+widest-within (suc groups) zero = ((λ other m. absurd (List·Memᴰ·not-nil m)), tt)
+widest-within (suc groups) (suc m) = widest-descending (suc m) (λ g. groupingsWithin groups (suc m - g)) (λ g. widest-within groups (suc m - g))
+
+-- Those that pass a test keep their order.
+pub widest-kept : (test : List ℕ → Bool) (l : List (List ℕ)) → WidestFirst l → WidestFirst (keep test l)
+unfolding WidestFirst keep
+widest-kept test [] w = tt
+widest-kept test (sizes ∷ l) w =
+    yes-or-no (test sizes)
+    (λ e. rw (keep-passed test sizes l e) ((λ other m. w .0 other (kept-among test l m .0)), widest-kept test l (w .1)))
+    (λ e. rw (keep-failed test sizes l e) (widest-kept test l (w .1)))
+
+-- The groupings stand in the order of preference: the widest first size first, then the widest second, and so on.
+pub groupings-widest-first : (n : ℕ) → WidestFirst (groupings n)
+unfolding groupings
+groupings-widest-first n = widest-within n n

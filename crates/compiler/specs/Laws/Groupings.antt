@@ -6,6 +6,8 @@ use mathlib.Core.Bool.{Bool, true, false, _&&_, cond, false≢true}
 use mathlib.Core.List.{List, [], _∷_, _++_, map, flatMap, List·Memᴰ, List·Memᴰ·head, List·Memᴰ·tail, List·Memᴰ·not-nil, List·Memᴰ·append-cases, Memᴰ·of-map}
 use native.Mathlib.Nat.{add-zero, zero-add}
 use native.Mathlib.Omega.{arith}
+use native.Mathlib.Decide.{decLe}
+use lib.ListN.{length}
 use lib.Dec.{leb, ltb, eqb}
 use borrow.Author.Tests.{ltb-true, lt-ltb, le-ltb, leb-true, leb-false, le-leb, lt-leb, eqb-true, eqb-false, eq-eqb, ne-eqb}
 use Rattle.numbers.specs.Lists.{every, keep, tally, sum}
@@ -16,6 +18,7 @@ use Rattle.compiler.specs.Sizes.{sameSizes, isGrouping, occurrences, wid
 
 -- ---- equal lists of sizes
 
+-- Lists that pass the test are equal.
 pub same-sizes-true : (left right : List ℕ) → sameSizes left right ≡ true → left ≡ right
 unfolding sameSizes
 same-sizes-true [] [] h = refl
@@ -25,6 +28,7 @@ same-sizes-true (a ∷ left) (b ∷ right) h =
     let parts = both (eqb a b) (sameSizes left right) h in
     ap₂ (λ x l. x ∷ l) (eqb-true a b (parts .0)) (same-sizes-true left right (parts .1))
 
+-- A list passes the test with itself.
 pub same-sizes-refl : (sizes : List ℕ) → sameSizes sizes sizes ≡ true
 unfolding sameSizes
 same-sizes-refl [] = refl
@@ -61,6 +65,17 @@ grouping-cons m a rest =
 pub grouping-nil : (m : ℕ) → isGrouping m [] ≡ eqb 0 m
 unfolding isGrouping every sum
 grouping-nil m = refl
+
+-- A grouping has no more sizes than variables.
+pub grouping-length : (n : ℕ) (sizes : List ℕ) → isGrouping n sizes ≡ true → length sizes ≤ n
+grouping-length n [] h = omega arith
+grouping-length n (a ∷ rest) h =
+    let parts = both (leb 1 a && leb a n) (isGrouping (n - a) rest) (rw (grouping-cons n a rest) at h) in
+    let size = both (leb 1 a) (leb a n) (parts .0) in
+    let some = leb-true 1 a (size .0) in
+    let inside = leb-true a n (size .1) in
+    let fewer = grouping-length (n - a) rest (parts .1) in
+    omega arith
 
 -- ---- occurrences, piece by piece
 
@@ -126,6 +141,7 @@ unfolding closing occurrences tally keep sameSizes
 closing-empty zero = rw (grouping-nil 0)
 closing-empty (suc m) = rw (grouping-nil (suc m), ne-eqb 0 (suc m) (λ e. omega arith))
 
+-- No other list stands there.
 closing-other : (m a : ℕ) (rest : List ℕ) → occurrences (a ∷ rest) (closing m) ≡ 0
 unfolding closing occurrences tally keep sameSizes
 closing-other zero a rest = refl
@@ -180,9 +196,11 @@ among-occurs {sizes} (List·Memᴰ·tail {x = x} {xs = l} m) =
     (λ e. rw (tally-passed (sameSizes sizes) x l e) (omega arith))
     (λ e. rw (tally-failed (sameSizes sizes) x l e) (among-occurs m))
 
+-- A grouping is among the groupings.
 pub grouping-among : (n : ℕ) (sizes : List ℕ) → isGrouping n sizes ≡ true → List·Memᴰ sizes (groupings n)
 grouping-among n sizes h = occurs-among sizes (groupings n) (rw (groupings-once n sizes, h) (omega arith))
 
+-- What is among the groupings is a grouping.
 pub among-grouping : (n : ℕ) (sizes : List ℕ) → List·Memᴰ sizes (groupings n) → isGrouping n sizes ≡ true
 among-grouping n sizes m =
     yes-or-no (isGrouping n sizes)
@@ -191,10 +209,12 @@ among-grouping n sizes m =
 
 -- ---- the wider first
 
+-- The first size decides.
 wider-here : (a b : ℕ) (left right : List ℕ) → b < a → widerFirst (a ∷ left) (b ∷ right) ≡ true
 unfolding widerFirst
 wider-here a b left right h = rw (lt-ltb b a h)
 
+-- Equal first sizes leave it to the rest.
 wider-later : (a : ℕ) (left right : List ℕ) → widerFirst (a ∷ left) (a ∷ right) ≡ widerFirst left right
 unfolding widerFirst
 wider-later a left right = rw (le-ltb a a (omega arith), eq-eqb a a refl)
@@ -219,6 +239,7 @@ unfoldable pub WidestFirst : List (List ℕ) → Type 0
 WidestFirst [] = Unit {0}
 WidestFirst (sizes ∷ l) = ((other : List ℕ) → List·Memᴰ other l → widerFirst sizes other ≡ true) × WidestFirst l
 
+-- Two parts in order, where each of the first is wider first than each of the second.
 widest-append : (l more : List (List ℕ)) → WidestFirst l → WidestFirst more → ((left right : List ℕ) → List·Memᴰ left l → List·Memᴰ right more → widerFirst left right ≡ true) → WidestFirst (l ++ more)
 unfolding WidestFirst
 widest-append [] more h k across = k
@@ -250,6 +271,7 @@ first-size (suc b) after sizes m = widest-or-less (first-size b after sizes) (Li
     widest-or-less less (inl p) = let r = Memᴰ·of-map (λ rest. suc b ∷ rest) (after (suc b)) p in (suc b, r .0, omega arith, r .2)
     widest-or-less less (inr q) = let r = less q in (r .0, r .1, (let h = r .2 in omega arith), r .3)
 
+-- Lists with a first size from b down to 1 stand in order where those behind each size do.
 widest-descending : (b : ℕ) (after : ℕ → List (List ℕ)) → ((g : ℕ) → WidestFirst (after g)) → WidestFirst (startingTo b after)
 unfolding flatMap descending WidestFirst
 widest-descending zero after h = tt
@@ -261,6 +283,7 @@ widest-descending (suc b) after h = widest-append (map (λ rest. suc b ∷ rest)
         let r = first-size b after right q in
         rw (← l .2, ← r .3) (wider-here (suc b) (r .0) (l .0) (r .1) (let h = r .2 in omega arith))
 
+-- The lists of at most so many sizes stand in order.
 widest-within : (groups m : ℕ) → WidestFirst (groupingsWithin groups m)
 unfolding groupingsWithin closing WidestFirst flatMap descending
 widest-within zero zero = ((λ other m. absurd (List·Memᴰ·not-nil m)), tt)
@@ -281,3 +304,41 @@ widest-kept test (sizes ∷ l) w =
 pub groupings-widest-first : (n : ℕ) → WidestFirst (groupings n)
 unfolding groupings
 groupings-widest-first n = widest-within n n
+
+-- ---- the groupings, by their first size
+
+-- Lists that are the same behind each first size.
+starting-same : (b : ℕ) (left right : ℕ → List (List ℕ)) → ((g : ℕ) → 1 ≤ g → g ≤ b → left g ≡ right g) → startingTo b left ≡ startingTo b right
+unfolding flatMap descending
+starting-same zero left right h = refl
+starting-same (suc b) left right h =
+    ap₂ (λ l more. map (λ sizes. suc b ∷ sizes) l ++ more) (h (suc b) (omega arith) (omega arith)) (starting-same b left right (λ g p q. h g p (omega arith)))
+
+-- Where there is a size for each variable, one more adds nothing.
+one-size-more : (groups m : ℕ) → m ≤ groups → groupingsWithin (suc groups) m ≡ groupingsWithin groups m
+unfolding groupingsWithin closing flatMap descending
+one-size-more zero zero h = refl
+one-size-more zero (suc m) h = absurd (omega arith)
+one-size-more (suc groups) zero h = refl
+one-size-more (suc groups) (suc m) h =
+    starting-same (suc m) (λ g. groupingsWithin (suc groups) (suc m - g)) (λ g. groupingsWithin groups (suc m - g)) (λ g p q. one-size-more groups (suc m - g) (omega arith))
+
+-- As many sizes as variables are enough.
+enough-sizes : (groups m : ℕ) → m ≤ groups → groupingsWithin groups m ≡ groupings m
+unfolding groupings
+enough-sizes zero m h = ap (λ groups. groupingsWithin groups m) (let e : 0 ≡ m = omega arith in e)
+enough-sizes (suc groups) m h = all-or-more (decLe m groups) (enough-sizes groups m)
+  where
+    all-or-more : Dec (m ≤ groups) → (m ≤ groups → groupingsWithin groups m ≡ groupingsWithin m m) → groupingsWithin (suc groups) m ≡ groupingsWithin m m
+    all-or-more (yes l) fewer = one-size-more groups m l ∙ fewer l
+    all-or-more (no l) fewer = ap (λ groups. groupingsWithin groups m) (let e : suc groups ≡ m = omega arith in e)
+
+-- The one list of no sizes.
+pub groupings-zero : groupings 0 ≡ [] ∷ []
+unfolding groupings groupingsWithin closing
+groupings-zero = refl
+
+-- From the widest first size down, each followed by the groupings of the variables left.
+pub groupings-suc : (m : ℕ) → groupings (suc m) ≡ startingTo (suc m) (λ g. groupings (suc m - g))
+unfolding groupings groupingsWithin closing
+groupings-suc m = starting-same (suc m) (λ g. groupingsWithin m (suc m - g)) (λ g. groupings (suc m - g)) (λ g p q. enough-sizes m (suc m - g) (omega arith))

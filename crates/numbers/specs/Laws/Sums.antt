@@ -11,14 +11,17 @@ use Rattle.numbers.specs.Laws.Bools.{yes-or-no}
 -- ---- what passes a test
 
 module _ {A : Type 0} (test : A → Bool) where
+  -- A first element that passes is kept.
   pub keep-passed : (a : A) (l : List A) → test a ≡ true → keep test (a ∷ l) ≡ a ∷ keep test l
   unfolding keep
   keep-passed a l e = rw (e, keep)
 
+  -- A first element that fails is left out.
   pub keep-failed : (a : A) (l : List A) → test a ≡ false → keep test (a ∷ l) ≡ keep test l
   unfolding keep
   keep-failed a l e = rw (e, keep)
 
+  -- Of appended lists the kept parts are appended.
   pub keep-append : (l more : List A) → keep test (l ++ more) ≡ keep test l ++ keep test more
   unfolding keep
   keep-append [] more = refl
@@ -54,26 +57,32 @@ keep-map f test (a ∷ l) =
 -- ---- how many pass
 
 module _ {A : Type 0} (test : A → Bool) where
+  -- A first element that passes is counted.
   pub tally-passed : (a : A) (l : List A) → test a ≡ true → tally test (a ∷ l) ≡ suc (tally test l)
   unfolding tally
   tally-passed a l e = ap length (keep-passed test a l e)
 
+  -- A first element that fails is not.
   pub tally-failed : (a : A) (l : List A) → test a ≡ false → tally test (a ∷ l) ≡ tally test l
   unfolding tally
   tally-failed a l e = ap length (keep-failed test a l e)
 
+  -- Appended lists count together.
   pub tally-append : (l more : List A) → tally test (l ++ more) ≡ tally test l + tally test more
   unfolding tally
   tally-append l more = ap length (keep-append test l more) ∙ length-append (keep test l) (keep test more)
 
+  -- Where every element fails, none is counted.
   pub tally-none : (l : List A) → ((a : A) → test a ≡ false) → tally test l ≡ 0
   unfolding tally
   tally-none l h = ap length (keep-none test l h)
 
+-- Equal tests count the same.
 pub tally-same : {A : Type 0} (left right : A → Bool) (l : List A) → ((a : A) → left a ≡ right a) → tally left l ≡ tally right l
 unfolding tally
 tally-same left right l h = ap length (keep-same left right l h)
 
+-- How many pass of a mapped list.
 pub tally-map : {A B : Type 0} (f : A → B) (test : B → Bool) (l : List A) → tally test (map f l) ≡ tally (λ a. test (f a)) l
 unfolding tally
 tally-map f test l = ap length (keep-map f test l) ∙ length-map (keep (λ a. test (f a)) l) f

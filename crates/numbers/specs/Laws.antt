@@ -11,5 +11,6 @@ pub mod Order
 pub mod Padding
 pub mod Powers
 pub mod Selections
+pub mod Sums
 pub mod Tallies
 pub mod Widths

@@ -3,6 +3,7 @@ pub mod Blocks
 pub mod Classes
 pub mod Classing
 pub mod Comparing
+pub mod Cut
 pub mod Differences
 pub mod Known
 pub mod Same

@@ -1,5 +1,6 @@
 -- How the classes of all cuts lie in arrays: cut after cut, block j of cut h at place 2^h - 1 + j.
 use Prim.Native.Nat.{ℕ, suc, _+_, _-_, _*_, _^_, _≤_, _<_}
+use mathlib.Core.Path.{_≡_}
 use mathlib.Core.Bool.{cond}
 use mathlib.Core.List.{List, map, flatMap}
 use lib.ListN.{length, getD, take, drop, set}
@@ -40,6 +41,17 @@ numbersOf ds = map (numberIn (distinct ds)) ds
 -- For each different list the place where it appears first, and 0 past the last.
 unfoldable pub firstsOf : ℕ → List (List ℤ) → List ℕ
 firstsOf places ds = padded places 0 (map (numberIn ds) (distinct ds))
+
+-- A cut of a table: rows of one place for each of its blocks.
+pub record CutRoom (table : List ℤ) (size : ℕ) (classes firsts : List ℕ) : Type 0 where
+  pub whole : length table ≡ length classes * size
+  pub alike : length firsts ≡ length classes
+
+-- What the classing of a cut with so many blocks leaves: the count, the blocks' classes, and the classes' first blocks.
+pub record CutClassed (table : List ℤ) (size blocks : ℕ) (count : ℕ) (classes firsts : List ℕ) : Type 0 where
+  pub counted : count ≡ length (distinct (partDifferences table size (range 0 blocks)))
+  pub numbered : classes ≡ numbersOf (partDifferences table size (range 0 blocks))
+  pub placed : firsts ≡ firstsOf blocks (partDifferences table size (range 0 blocks))
 
 -- The class of each block of cut h, left to right.
 unfoldable pub cutNumbers : ℕ → List ℤ → ℕ → List ℕ

@@ -6,7 +6,7 @@ ghost use lib.ListN.{length, getD};
 ghost use lib.IntN.{pos, _-ℤ_};
 ghost use Rattle.blocks.specs.Blocks.{first, differences};
 ghost use Rattle.blocks.specs.Classes.{same, numberIn};
-ghost use Rattle.blocks.specs.Layout.{less, part, partDifferences, PartsWithin, CutRoom, CutClassed, countNoted, firstsNoted};
+ghost use Rattle.blocks.specs.Layout.{less, part, partDifferences, PartsWithin, CutRoom, CutClassed, CutsRoom, CutPlaced, countNoted, firstsNoted};
 
 // A value less a constant, in a width that holds any such difference.
 fn difference(values: &[i32], x: usize, constant: i32) -> i64
@@ -125,4 +125,28 @@ fn class_cut(table: &[i32], size: usize, classes: &mut [usize], firsts: &mut [us
         j += 1;
     }
     count
+}
+
+// The classes of cut h, at their places in the rows of all cuts.
+fn class_cut_at(
+    n: usize,
+    h: usize,
+    table: &[i32],
+    classes: &mut [usize],
+    firsts: &mut [usize],
+) -> usize
+    requires { ⌜ CutsRoom n (now table) (now classes) (now firsts) ⌝ }
+    requires { ⌜ h ≤ n ⌝ }
+    ensures { λ r. ⌜ CutPlaced n (now (table .entry)) h (now (classes .entry)) (now (firsts .entry)) r (now (classes .exit)) (now (firsts .exit)) ⌝ }
+{
+    let blocks = numbers::power(h);
+    let size = numbers::power(n - h);
+    let start = blocks - 1;
+    let end = start + blocks;
+    class_cut(
+        table,
+        size,
+        &mut classes[start..end],
+        &mut firsts[start..end],
+    )
 }

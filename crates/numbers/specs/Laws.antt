@@ -8,6 +8,7 @@ pub mod Least
 pub mod Lists
 pub mod Machine
 pub mod Order
+pub mod Overwriting
 pub mod Padding
 pub mod Powers
 pub mod Selections

@@ -86,7 +86,7 @@ fn find_class(table: &[i32], size: usize, firsts: &[usize], values: &[i32]) -> u
     let mut k = 0;
     let class = loop {
         if k == firsts.len() {
-            break k;
+            break firsts.len();
         }
         if same_part(table, size, firsts[k], values) {
             break k;

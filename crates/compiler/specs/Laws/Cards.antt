@@ -22,7 +22,8 @@ use Rattle.image.specs.Run.{wordAt, groupValue, runFrom, runCard, cardValues}
 use Rattle.diagram.specs.Accepted.{Accepted}
 use Rattle.compiler.specs.Cascade.{cellOf, cellsFrom, cardFor}
 use Rattle.compiler.specs.Sizes.{isGrouping}
-use Rattle.compiler.specs.Laws.Words.{first-of-block, word-of-block, word-class, word-weight}
+use Rattle.blocks.specs.Laws.Blocks.{first-of-block}
+use Rattle.compiler.specs.Laws.Words.{word-of-block, word-class, word-weight}
 
 -- A value and what is left to another one.
 add-sub : (a b : ℤ) → a +ℤ (b -ℤ a) ≡ b

@@ -3,7 +3,7 @@ use Prim.Native.Nat.{ℕ, _+_, _-_, _*_, _/_, _%_, _^_, _≤_, _<_}
 use mathlib.Core.Path.{_≡_, sym, _∙_, ap, ap₂}
 use mathlib.Core.Bool.{true}
 use mathlib.Core.List.{List, [], map}
-use native.Mathlib.Nat.{add-zero, zero-add, mul-comm, mul-assoc, mod-lt, div-add-mod', div-lt-iff-lt-mul}
+use native.Mathlib.Nat.{zero-add, mul-comm, mul-assoc, mod-lt, div-add-mod', div-lt-iff-lt-mul}
 use native.Mathlib.Omega.{arith}
 use lib.ListN.{length, getD, length-map}
 use lib.Pow.{pow-pos, pow-add}
@@ -17,25 +17,11 @@ use Rattle.numbers.specs.Laws.Powers.{part-room}
 use Rattle.numbers.specs.Laws.Selections.{length-flatMap, getD-flatMap}
 use Rattle.blocks.specs.Blocks.{block, first, differences}
 use Rattle.blocks.specs.Classes.{numberIn, classes, classCount, classOf}
-use Rattle.blocks.specs.Laws.Blocks.{block-length, block-at, block-in-block}
+use Rattle.blocks.specs.Laws.Blocks.{block-length, first-of-block, block-within, block-in-block}
 use Rattle.blocks.specs.Laws.Classes.{class-below, class-stands, class-used}
 use Rattle.blocks.specs.Laws.Differences.{differences-at, first-differences, differences-of-block}
 use Rattle.image.specs.Cells.{Word}
 use Rattle.compiler.specs.Cascade.{wordOf, wordsOf}
-
--- ---- first values
-
--- The first value of a block stands where the block begins.
-pub first-of-block : (table : List ℤ) (i j : ℕ) → first (block table i j) ≡ getD table (j * 2 ^ i) (pos 0)
-unfolding first
-first-of-block table i j = block-at table i j 0 (pow-pos i) ∙ ap (λ x. getD table x (pos 0)) (add-zero (j * 2 ^ i))
-
--- A block at cut h lies within the table.
-pub block-within : (n h j : ℕ) → h ≤ n → j < 2 ^ h → j * 2 ^ (n - h) + 2 ^ (n - h) ≤ 2 ^ n
-block-within n h j cut l =
-    let whole : 2 ^ h * 2 ^ (n - h) ≡ 2 ^ n = (sym (pow-add 2 h (n - h)) ∙ ap (λ k. 2 ^ k) (let e : h + (n - h) ≡ n = omega arith in e)) in
-    let r = part-room (2 ^ h) (n - h) j l in
-    omega arith
 
 -- ---- words by class and group value
 

@@ -1,5 +1,7 @@
 -- Laws about the definitions of this crate, which proofs cite.
 pub mod Alike
+pub mod Checks
+pub mod Edges
 pub mod Fits
 pub mod Nodes
 pub mod Numbering

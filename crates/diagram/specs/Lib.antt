@@ -4,6 +4,7 @@ pub mod Bound
 pub mod Branching
 pub mod Build
 pub mod Counting
+pub mod Edges
 pub mod Laws
 pub mod NodeBound
 pub mod Records

@@ -3,6 +3,8 @@ pub mod Blocks
 pub mod Classes
 pub mod Classing
 pub mod Comparing
+pub mod Cut
+pub mod Cuts
 pub mod Differences
 pub mod Known
 pub mod Same

@@ -1,11 +1,13 @@
 -- How the classes of all cuts lie in arrays: cut after cut, block j of cut h at place 2^h - 1 + j.
 use Prim.Native.Nat.{ℕ, suc, _+_, _-_, _*_, _^_, _≤_, _<_}
+use mathlib.Core.Path.{_≡_}
 use mathlib.Core.Bool.{cond}
 use mathlib.Core.List.{List, map, flatMap}
 use lib.ListN.{length, getD, take, drop, set}
 use lib.Dec.{eqb}
 use lib.IntN.{ℤ, _-ℤ_}
-use Rattle.numbers.specs.Lists.{range, padded}
+use Rattle.numbers.specs.Lists.{range, padded, overwritten}
+use Rattle.numbers.specs.Ranges.{mostVariables}
 use Rattle.blocks.specs.Blocks.{blocks, differences}
 use Rattle.blocks.specs.Classes.{numberIn, distinct, classes, classCount, classOf}
 
@@ -41,6 +43,17 @@ numbersOf ds = map (numberIn (distinct ds)) ds
 unfoldable pub firstsOf : ℕ → List (List ℤ) → List ℕ
 firstsOf places ds = padded places 0 (map (numberIn ds) (distinct ds))
 
+-- A cut of a table: rows of one place for each of its blocks.
+pub record CutRoom (table : List ℤ) (size : ℕ) (classes firsts : List ℕ) : Type 0 where
+  pub whole : length table ≡ length classes * size
+  pub alike : length firsts ≡ length classes
+
+-- What the classing of a cut with so many blocks leaves: the count, the blocks' classes, and the classes' first blocks.
+pub record CutClassed (table : List ℤ) (size blocks : ℕ) (count : ℕ) (classes firsts : List ℕ) : Type 0 where
+  pub counted : count ≡ length (distinct (partDifferences table size (range 0 blocks)))
+  pub numbered : classes ≡ numbersOf (partDifferences table size (range 0 blocks))
+  pub placed : firsts ≡ firstsOf blocks (partDifferences table size (range 0 blocks))
+
 -- The class of each block of cut h, left to right.
 unfoldable pub cutNumbers : ℕ → List ℤ → ℕ → List ℕ
 cutNumbers n table h = numbersOf (map differences (blocks n table (n - h)))
@@ -58,3 +71,20 @@ allFirsts n table = flatMap (cutFirsts n table) (range 0 (suc n))
 
 unfoldable pub allCounts : ℕ → List ℤ → List ℕ
 allCounts n table = map (classCount n table) (range 0 (suc n))
+
+-- The place of cut h in the rows of all cuts.
+unfoldable pub cutPlace : ℕ → ℕ
+cutPlace h = 2 ^ h - 1
+
+-- A table of 2^n values, n at most 12, and rows for the blocks of all cuts.
+pub record CutsRoom (n : ℕ) (table : List ℤ) (classes firsts : List ℕ) : Type 0 where
+  pub variables : n ≤ mostVariables
+  pub whole : length table ≡ 2 ^ n
+  pub classRow : length classes ≡ cutPlace (suc n)
+  pub firstRow : length firsts ≡ cutPlace (suc n)
+
+-- What the classing of cut h leaves in the rows of all cuts.
+pub record CutPlaced (n : ℕ) (table : List ℤ) (h : ℕ) (classes firsts : List ℕ) (count : ℕ) (classes′ firsts′ : List ℕ) : Type 0 where
+  pub counted : count ≡ classCount n table h
+  pub numbered : classes′ ≡ overwritten classes (cutPlace h) (cutNumbers n table h)
+  pub placed : firsts′ ≡ overwritten firsts (cutPlace h) (cutFirsts n table h)

@@ -6,7 +6,7 @@ ghost use lib.ListN.{length, getD};
 ghost use lib.IntN.{pos, _-ℤ_};
 ghost use Rattle.blocks.specs.Blocks.{first, differences};
 ghost use Rattle.blocks.specs.Classes.{same, numberIn};
-ghost use Rattle.blocks.specs.Layout.{less, part, partDifferences, PartsWithin, countNoted, firstsNoted};
+ghost use Rattle.blocks.specs.Layout.{less, part, partDifferences, PartsWithin, CutRoom, CutClassed, CutsRoom, CutPlaced, countNoted, firstsNoted};
 
 // A value less a constant, in a width that holds any such difference.
 fn difference(values: &[i32], x: usize, constant: i32) -> i64
@@ -98,4 +98,55 @@ fn note_first(firsts: &mut [usize], count: usize, j: usize, class: usize) -> usi
         return count + 1;
     }
     count
+}
+
+// The class of part j of a table among the known ones.
+fn class_of_part(table: &[i32], size: usize, firsts: &[usize], j: usize) -> usize
+    requires { ⌜ PartsWithin (now table) size (now firsts) ⌝ }
+    requires { ⌜ j * size + size ≤ length (now table) ⌝ }
+    ensures { λ r. ⌜ r ≡ numberIn (partDifferences (now (table .entry)) size (now (firsts .entry))) (differences (part (now (table .entry)) size j)) ⌝ }
+{
+    let start = j * size;
+    let end = start + size;
+    find_class(table, size, firsts, &table[start..end])
+}
+
+// The classes of a cut whose blocks have this size: each block's class, each class's first block, and the class count.
+fn class_cut(table: &[i32], size: usize, classes: &mut [usize], firsts: &mut [usize]) -> usize
+    requires { ⌜ CutRoom (now table) size (now classes) (now firsts) ⌝ }
+    ensures { λ r. ⌜ CutClassed (now (table .entry)) size (length (now (classes .entry))) r (now (classes .exit)) (now (firsts .exit)) ⌝ }
+{
+    let mut count = 0;
+    let mut j = 0;
+    while j < classes.len() {
+        let class = class_of_part(table, size, &firsts[..count], j);
+        classes[j] = class;
+        count = note_first(firsts, count, j, class);
+        j += 1;
+    }
+    count
+}
+
+// The classes of cut h, at their places in the rows of all cuts.
+fn class_cut_at(
+    n: usize,
+    h: usize,
+    table: &[i32],
+    classes: &mut [usize],
+    firsts: &mut [usize],
+) -> usize
+    requires { ⌜ CutsRoom n (now table) (now classes) (now firsts) ⌝ }
+    requires { ⌜ h ≤ n ⌝ }
+    ensures { λ r. ⌜ CutPlaced n (now (table .entry)) h (now (classes .entry)) (now (firsts .entry)) r (now (classes .exit)) (now (firsts .exit)) ⌝ }
+{
+    let blocks = numbers::power(h);
+    let size = numbers::power(n - h);
+    let start = blocks - 1;
+    let end = start + blocks;
+    class_cut(
+        table,
+        size,
+        &mut classes[start..end],
+        &mut firsts[start..end],
+    )
 }

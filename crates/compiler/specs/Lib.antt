@@ -2,4 +2,6 @@
 pub mod Cascade
 pub mod Compile
 pub mod Groupings
+pub mod Laws
 pub mod Plan
+pub mod Sizes

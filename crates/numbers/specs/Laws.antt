@@ -8,8 +8,10 @@ pub mod Least
 pub mod Lists
 pub mod Machine
 pub mod Order
+pub mod Overwriting
 pub mod Padding
 pub mod Powers
 pub mod Selections
+pub mod Sums
 pub mod Tallies
 pub mod Widths

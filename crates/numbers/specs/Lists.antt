@@ -2,7 +2,7 @@
 use Prim.Native.Nat.{ℕ, zero, suc, _+_, _-_}
 use mathlib.Core.Bool.{Bool, true, false, _&&_}
 use mathlib.Core.List.{List, [], _∷_, _++_}
-use lib.ListN.{length, replicate}
+use lib.ListN.{length, take, drop, replicate}
 
 -- As many numbers as count says, from start up.
 unfoldable pub range : ℕ → ℕ → List ℕ
@@ -39,3 +39,7 @@ least test bound = leastFrom test bound 0
 -- A list in an array of so many places: those past its last entry hold the filler.
 unfoldable pub padded : {A : Type 0} → ℕ → A → List A → List A
 padded places filler l = l ++ replicate (places - length l) filler
+
+-- A row with new entries from a place on.
+unfoldable pub overwritten : {A : Type 0} → List A → ℕ → List A → List A
+overwritten row at new = take at row ++ (new ++ drop (at + length new) row)

@@ -1,7 +1,7 @@
 // Ranges and bit widths, and the laws of integers, lists and powers of two that every proof cites.
 ghost use mathlib.Core.Path.{_≡_};
 ghost use mathlib.Core.List.{[], _∷_};
-ghost use Prim.Native.Nat.{_≤_};
+ghost use Prim.Native.Nat.{_^_, _<_};
 ghost use lib.Signed.{mag};
 ghost use Rattle.numbers.specs.Widths.{bitLength, railWidth, weightWidth};
 
@@ -48,4 +48,12 @@ pub fn weight_width(least: i32, greatest: i32) -> usize
         }
     }
     1 + bit_length(low)
+}
+
+// 2^k.
+pub fn power(k: usize) -> usize
+    requires { ⌜ k < 64 ⌝ }
+    ensures { λ r. ⌜ r ≡ 2 ^ k ⌝ }
+{
+    1usize << k
 }

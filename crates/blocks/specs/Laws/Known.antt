@@ -13,7 +13,7 @@ use lib.IntN.{ℤ}
 use borrow.Author.Tests.{ltb-true, ltb-false, lt-ltb, le-ltb}
 use Rattle.numbers.specs.Laws.Bools.{yes-or-no}
 use Rattle.blocks.specs.Classes.{same, numberIn, learn, learnAll, distinct}
-use Rattle.blocks.specs.Laws.Same.{same-true, same-refl}
+use Rattle.blocks.specs.Laws.Same.{same-true, same-refl, equal-same}
 
 -- ---- a number among known lists
 
@@ -51,6 +51,14 @@ number-first (k ∷ known) d (suc j) h =
     yes-or-no (same k d)
     (λ e. absurd (let l : suc j < 0 = rw (number-here k known d e) at h in omega arith))
     (λ e. number-first known d j (let l : suc j < suc (numberIn known d) = rw (number-later k known d e) at h in omega arith))
+
+-- A list that stands at j has no later number.
+pub number-by : (known : List (List ℤ)) (d : List ℤ) (j : ℕ) → getD known j [] ≡ d → numberIn known d ≤ j
+number-by known d j e = at-most (decLt j (numberIn known d))
+  where
+    at-most : Dec (j < numberIn known d) → numberIn known d ≤ j
+    at-most (yes l) = absurd (true≢false (sym (equal-same (getD known j []) d e) ∙ number-first known d j l))
+    at-most (no l) = omega arith
 
 -- A number stays as more lists become known.
 pub number-append : (known more : List (List ℤ)) (d : List ℤ) → numberIn known d < length known → numberIn (known ++ more) d ≡ numberIn known d

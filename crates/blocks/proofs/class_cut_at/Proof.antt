@@ -1,0 +1,99 @@
+-- `blocks::class_cut_at` meets its contract: the parts of both rows that belong to cut h are lent and come back. Assumes nothing.
+use Prim.Native.Nat.{ℕ, suc, _+_, _-_, _*_, _^_, _≤_, _<_}
+use mathlib.Core.Path.{_≡_, refl, sym, _∙_, ap, ap₂}
+use mathlib.Core.List.{List, map}
+use native.Mathlib.Omega.{arith}
+use lib.ListN.{length, take, drop, length-take, length-drop}
+use lib.Pow.{pow-pos, pow-mono}
+use mir.Facts.{fits-of-lt}
+use Rattle.numbers.specs.Ranges.{mostVariables}
+use Rattle.blocks.specs.Layout.{cutPlace, CutsRoom, CutRoom, CutPlaced}
+use Rattle.blocks.specs.Laws.Cuts.{CutAt, count-small, within-classes, within-firsts, cut-room, cut-placed}
+use borrow.Author.Needs.{needs}
+use Rattle.blocks.proofs.class_cut_at.Statement.{statement}
+use Rattle.blocks.proofs.class_cut_at.Tie as tie
+
+-- What is known of the cut, from the two powers.
+module _ (c : tie.After-power2) where
+  abbrev start : tie.Start
+  start = c .before .before .before .before
+
+  known : CutAt (start .args .n) (start .args .h) (c .before .power .result) (c .power2 .result) (start .args .table .now) (start .args .classes .now) (start .args .firsts .now)
+  known = record { rows = start .pre .0; cut = start .pre .1; is-count = c .before .power .ensures; is-size = c .power2 .ensures }
+
+power-requires : tie.Need-power-requires
+unfolding mostVariables
+power-requires c κs = let v = c .before .before .pre .0 .variables in let h = c .before .before .pre .1 in omega arith
+
+sub-power : tie.Need-sub-power
+sub-power c = search needs
+
+power-requires-2 : tie.Need-power-requires-2
+unfolding mostVariables
+power-requires-2 c κs = let v = c .before .before .before .pre .0 .variables in omega arith
+
+sub-start : tie.Need-sub-start
+sub-start c = count-small (known c) .0
+
+add-end : tie.Need-add-end
+add-end c = fits-of-lt (let s = count-small (known c) in omega arith)
+
+mul-class-cut : tie.Need-mul-class-cut
+mul-class-cut c = fits-of-lt (let s = count-small (known c) in omega arith)
+
+sub-class-cut : tie.Need-sub-class-cut
+sub-class-cut c = search needs
+
+part-class-cut-start : tie.Need-part-class-cut-start
+part-class-cut-start c = search needs
+
+part-class-cut-end : tie.Need-part-class-cut-end
+part-class-cut-end c = within-classes (known c)
+
+mul-class-cut-2 : tie.Need-mul-class-cut-2
+mul-class-cut-2 c = fits-of-lt (let s = count-small (known (c .before)) in omega arith)
+
+sub-class-cut-2 : tie.Need-sub-class-cut-2
+sub-class-cut-2 c = search needs
+
+part-class-cut-start-2 : tie.Need-part-class-cut-start-2
+part-class-cut-start-2 c = search needs
+
+part-class-cut-end-2 : tie.Need-part-class-cut-end-2
+part-class-cut-end-2 c = within-firsts (known (c .before))
+
+class-cut-requires : tie.Need-class-cut-requires
+class-cut-requires c κs = cut-room (known (c .before .before))
+
+same-length : tie.Need-same-length
+same-length c = search needs
+
+same-length-2 : tie.Need-same-length-2
+same-length-2 c = search needs
+
+returns : tie.Need-returns
+returns c =
+    let k = c .before .before .before .before .class-cut in
+    cut-placed (known (c .before .before .before .before .before .before .before)) (k .result) (k .last .1 .1 .0) (k .last .1 .1 .1 .0) (k .ensures)
+
+pub class-cut-at-spec : {M : Type 1} → statement M
+class-cut-at-spec =
+    tie.close
+    (tie.spec
+    power-requires
+    sub-power
+    power-requires-2
+    sub-start
+    add-end
+    mul-class-cut
+    sub-class-cut
+    part-class-cut-start
+    part-class-cut-end
+    mul-class-cut-2
+    sub-class-cut-2
+    part-class-cut-start-2
+    part-class-cut-end-2
+    class-cut-requires
+    same-length
+    same-length-2
+    returns)

@@ -1,8 +1,10 @@
 -- Laws about the definitions of this crate, which proofs cite.
 pub mod Alike
+pub mod BranchingClasses
 pub mod Checks
 pub mod Edges
 pub mod Fits
+pub mod Forks
 pub mod Nodes
 pub mod Numbering
 pub mod Paths

@@ -3,6 +3,7 @@ pub mod Accepted
 pub mod Bound
 pub mod Branching
 pub mod Build
+pub mod Building
 pub mod Counting
 pub mod Edges
 pub mod Laws

@@ -1,12 +1,17 @@
 // The reduced edge-valued decision diagram of a table: Build and Walk.
 ghost use mathlib.Core.Path.{_≡_};
-ghost use mathlib.Core.Bool.{true};
-ghost use Prim.Native.Nat.{ℕ, _+_, _-_, _^_, _≤_, _<_};
-ghost use lib.IntN.{pos};
-ghost use Rattle.numbers.specs.Lists.{range, every};
-ghost use Rattle.numbers.specs.Ranges.{isVariables, within};
+ghost use mathlib.Core.Bool.{true, not, _&&_};
+ghost use Prim.Native.Nat.{ℕ, suc, _+_, _-_, _*_, _^_, _≤_, _<_};
+ghost use lib.ListN.{length, getD};
+ghost use lib.Dec.{eqb};
+ghost use lib.IntN.{pos, _-ℤ_};
+ghost use Rattle.numbers.specs.Lists.{range, every, overwritten};
+ghost use Rattle.numbers.specs.Ranges.{isVariables, isValue, within, eqZ};
+ghost use Rattle.blocks.specs.Blocks.{block, first};
+ghost use Rattle.blocks.specs.Layout.{cutPlace};
 ghost use Rattle.diagram.specs.Build.{nodeRoom};
-ghost use Rattle.diagram.specs.Records.{recordSize};
+ghost use Rattle.diagram.specs.Building.{classAt, forkOf, Forking};
+ghost use Rattle.diagram.specs.Records.{recordNumbers, recordSize};
 ghost use Rattle.diagram.specs.Walk.{numberAt, childFits, recordFits, recordCount, listFits, walkValue, walk, walked};
 ghost use Rattle.diagram.specs.Edges.{Recorded, Walkable, Passing, edgeAt};
 
@@ -56,20 +61,12 @@ fn is_below(number: i32, count: usize) -> bool
     (number as usize) < count
 }
 
-// A power of two.
-fn power(k: usize) -> usize
-    requires { ⌜ k ≤ 12 ⌝ }
-    ensures { λ r. ⌜ r ≡ 2 ^ k ⌝ }
-{
-    1usize << k
-}
-
 // The numbers that a node buffer must have room for.
 fn node_room(n: usize) -> usize
     requires { ⌜ n ≤ 12 ⌝ }
     ensures { λ r. ⌜ r ≡ nodeRoom n ⌝ }
 {
-    RECORD_SIZE * (power(n) - 1)
+    RECORD_SIZE * (numbers::power(n) - 1)
 }
 
 // Number c, from 0, of record k, from 1.
@@ -200,8 +197,96 @@ pub fn walk(n: usize, offset: i32, records: &[i32], x: usize) -> Walked
     if !list_fits(n, records) {
         return Walked::Refused(6);
     }
-    if power(n) <= x {
+    if numbers::power(n) <= x {
         return Walked::Refused(7);
     }
     Walked::Value(walk_value(n, offset, records, x))
+}
+
+// Number k of cut h in a row of all cuts.
+fn in_cut(row: &[usize], h: usize, k: usize) -> usize
+    requires { ⌜ (h < 64) × (cutPlace h + k < length (now row)) ⌝ }
+    ensures { λ r. ⌜ r ≡ getD (now (row .entry)) (cutPlace h + k) 0 ⌝ }
+{
+    row[numbers::power(h) - 1 + k]
+}
+
+// The first value of block j of height i.
+fn first_of_block(table: &[i32], i: usize, j: usize) -> i32
+    requires { ⌜ (i < 64) × (j * 2 ^ i < length (now table)) ⌝ }
+    ensures { λ r. ⌜ r ≡ first (block (now (table .entry)) i j) ⌝ }
+{
+    table[j * numbers::power(i)]
+}
+
+// The weight of block j, whose halves have height i.
+fn weight_of_block(table: &[i32], i: usize, j: usize) -> i32
+    requires { ⌜ every isValue (now table) ≡ true ⌝ }
+    requires { ⌜ (i < 64) × ((j * 2 + 1) * 2 ^ i < length (now table)) ⌝ }
+    ensures { λ r. ⌜ r ≡ first (block (now (table .entry)) i (j * 2 + 1)) -ℤ first (block (now (table .entry)) i (j * 2)) ⌝ }
+{
+    first_of_block(table, i, j * 2 + 1) - first_of_block(table, i, j * 2)
+}
+
+// Whether halves of these classes and this weight differ as values.
+fn halves_differ(low: usize, high: usize, weight: i32) -> bool
+    ensures { λ r. ⌜ r ≡ not (eqb low high && eqZ weight (pos 0)) ⌝ }
+{
+    if low != high {
+        return true;
+    }
+    weight != 0
+}
+
+// What Build learns of a class: the nodes of its halves, its weight, and whether it branches.
+pub struct Fork {
+    pub low: usize,
+    pub high: usize,
+    pub weight: i32,
+    pub branching: bool,
+}
+
+// The fork of class c of cut h, read at the class's first block.
+fn fork_at(
+    n: usize,
+    h: usize,
+    c: usize,
+    table: &[i32],
+    classes: &[usize],
+    firsts: &[usize],
+    row: &[usize],
+) -> Fork
+    requires { ⌜ Forking n h c (now table) (now classes) (now firsts) (now row) ⌝ }
+    ensures { λ r. ⌜ r ≡ forkOf n (now (table .entry)) (n - suc h) (classAt n (now (table .entry)) h c) ⌝ }
+{
+    let j = in_cut(firsts, h, c);
+    let low = in_cut(classes, h + 1, j * 2);
+    let high = in_cut(classes, h + 1, j * 2 + 1);
+    let weight = weight_of_block(table, n - (h + 1), j);
+    Fork {
+        low: in_cut(row, h + 1, low),
+        high: in_cut(row, h + 1, high),
+        weight,
+        branching: halves_differ(low, high, weight),
+    }
+}
+
+// A record's numbers, behind those of the records made.
+fn write_record(
+    nodes: &mut [i32],
+    made: usize,
+    variable: usize,
+    low: usize,
+    high: usize,
+    weight: i32,
+)
+    requires { ⌜ recordSize * made + recordSize ≤ length (now nodes) ⌝ }
+    requires { ⌜ (variable < 4096) × ((low < 4096) × (high < 4096)) ⌝ }
+    ensures { λ _. ⌜ now (nodes .exit) ≡ overwritten (now (nodes .entry)) (recordSize * made) (recordNumbers (record { variable = variable; low = low; high = high; weight = weight })) ⌝ }
+{
+    let at = RECORD_SIZE * made;
+    nodes[at] = variable as i32;
+    nodes[at + 1] = low as i32;
+    nodes[at + 2] = high as i32;
+    nodes[at + 3] = weight;
 }

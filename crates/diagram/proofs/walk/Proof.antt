@@ -2,6 +2,7 @@
 use Prim.Native.Nat.{_^_}
 use mathlib.Core.Path.{_≡_, refl, sym, _∙_, ap}
 use mathlib.Core.Bool.{Bool, true}
+use native.Mathlib.Omega.{arith}
 use lib.Dec.{ltb}
 use lib.IntN.{pos, negℤ}
 use mir.Facts.{toZ-ofZ}
@@ -50,7 +51,7 @@ records : (c : tie.Else3) → listFits (c .before .before .before .before .befor
 records c = sym (c .before .list-fits .ensures) ∙ not-false _ (c .if3 .left)
 
 power-requires : tie.Need-power-requires
-power-requires c κs = variables-range _ (variables (c .before .before .before .before)) .1
+power-requires c κs = let v = variables-range _ (variables (c .before .before .before .before)) .1 in omega arith
 
 returns-4 : tie.Need-returns-4
 unfolding walk walked

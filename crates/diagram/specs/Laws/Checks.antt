@@ -9,12 +9,14 @@ use lib.Dec.{T, leb, ltb, eqb}
 use lib.IntN.{ℤ, pos, negsuc, natAbs}
 use lib.Signed.{mag, ltZ, leZ, nonNeg}
 use mir.Syntax.{w32, w64}
-use mir.Val.{Fits, SFits}
-use mir.Facts.{fits-natAbs}
+use mir.Val.{Fits, SFits, ofZ}
+use mir.Facts.{fits-natAbs, sfits-lit}
 use borrow.Author.Tests.{lt-ltb, le-ltb, le-leb, lt-leb, ltb-true, ltb-false, leb-true, eqb-true, eq-eqb, ne-eqb}
 use Rattle.numbers.specs.Lists.{range, every}
 use Rattle.numbers.specs.Ranges.{mostVariables, isVariables, within, eqZ, isWeight}
 use Rattle.numbers.specs.Laws.Bools.{yes-or-no, both}
+use Rattle.numbers.specs.Laws.Integers.{eqZ-true, eqZ-refl}
+use Rattle.numbers.specs.Laws.Machine.{same-bits}
 use Rattle.diagram.specs.Records.{recordSize}
 use Rattle.diagram.specs.Walk.{variableAt, lowAt, highAt, weightAt, childFits, recordFits, recordCount}
 use Rattle.diagram.specs.Edges.{Recorded}
@@ -70,6 +72,13 @@ unequal (pos a) (pos b) h = ne-eqb a b (λ e. h (ap pos e))
 unequal (pos a) (negsuc b) h = refl
 unequal (negsuc a) (pos b) h = refl
 unequal (negsuc a) (negsuc b) h = ne-eqb a b (λ e. h (ap negsuc e))
+
+-- Whether the bits of a number are those of 0.
+pub zero-bits : (z : ℤ) → SFits w32 z → eqb (ofZ w32 z) 0 ≡ eqZ z (pos 0)
+zero-bits z h =
+    yes-or-no (eqZ z (pos 0))
+    (λ e. eq-eqb (ofZ w32 z) 0 (ap (ofZ w32) (eqZ-true z (pos 0) e)) ∙ sym e)
+    (λ e. ne-eqb (ofZ w32 z) 0 (λ b. true≢false (sym (eqZ-refl (pos 0)) ∙ ap (λ y. eqZ y (pos 0)) (sym (same-bits w32 z (pos 0) h (sfits-lit tt) b)) ∙ e)) ∙ sym e)
 
 -- A weight's magnitude.
 pub weight-mag : (z : ℤ) → isWeight z ≡ true → mag z ≤ 16777215

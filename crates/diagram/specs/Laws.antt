@@ -1,9 +1,14 @@
 -- Laws about the definitions of this crate, which proofs cite.
 pub mod Alike
+pub mod BranchingClasses
+pub mod Checks
+pub mod Edges
 pub mod Fits
+pub mod Forks
 pub mod Nodes
 pub mod Numbering
 pub mod Paths
+pub mod Places
 pub mod RecordBlocks
 pub mod Reduced
 pub mod SameRecords

@@ -3,7 +3,9 @@ pub mod Accepted
 pub mod Bound
 pub mod Branching
 pub mod Build
+pub mod Building
 pub mod Counting
+pub mod Edges
 pub mod Laws
 pub mod NodeBound
 pub mod Records

@@ -1,4 +1,19 @@
 // The reduced edge-valued decision diagram of a table: Build and Walk.
+ghost use mathlib.Core.Path.{_≡_};
+ghost use mathlib.Core.Bool.{true, not, _&&_};
+ghost use Prim.Native.Nat.{ℕ, suc, _+_, _-_, _*_, _^_, _≤_, _<_};
+ghost use lib.ListN.{length, getD};
+ghost use lib.Dec.{eqb};
+ghost use lib.IntN.{pos, _-ℤ_};
+ghost use Rattle.numbers.specs.Lists.{range, every, overwritten};
+ghost use Rattle.numbers.specs.Ranges.{isVariables, isValue, within, eqZ};
+ghost use Rattle.blocks.specs.Blocks.{block, first};
+ghost use Rattle.blocks.specs.Layout.{cutPlace};
+ghost use Rattle.diagram.specs.Build.{nodeRoom};
+ghost use Rattle.diagram.specs.Building.{classAt, forkOf, Forking};
+ghost use Rattle.diagram.specs.Records.{recordNumbers, recordSize};
+ghost use Rattle.diagram.specs.Walk.{numberAt, childFits, recordFits, recordCount, listFits, walkValue, walk, walked};
+ghost use Rattle.diagram.specs.Edges.{Recorded, Walkable, Passing, edgeAt};
 
 // Build's answer. The records stand in the lent buffer.
 pub enum Built {
@@ -10,4 +25,268 @@ pub enum Built {
 pub enum Walked {
     Value(i32),
     Refused(u8),
+}
+
+// How many numbers a record has.
+const RECORD_SIZE: usize = 4;
+
+// Whether n is a number of variables.
+fn is_variables(n: usize) -> bool
+    ensures { λ r. ⌜ r ≡ isVariables n ⌝ }
+{
+    if n < 1 {
+        return false;
+    }
+    n <= 12
+}
+
+// Whether a number lies within a range.
+fn is_within(low: i32, high: i32, number: i32) -> bool
+    ensures { λ r. ⌜ r ≡ within «low» «high» «number» ⌝ }
+{
+    if number < low {
+        return false;
+    }
+    number <= high
+}
+
+// Whether a number is one of the first of so many, from 0.
+fn is_below(number: i32, count: usize) -> bool
+    requires { ⌜ 1 ≤ count ⌝ }
+    ensures { λ r. ⌜ r ≡ within (pos 0) (pos (count - 1)) number ⌝ }
+{
+    if number < 0 {
+        return false;
+    }
+    (number as usize) < count
+}
+
+// The numbers that a node buffer must have room for.
+fn node_room(n: usize) -> usize
+    requires { ⌜ n ≤ 12 ⌝ }
+    ensures { λ r. ⌜ r ≡ nodeRoom n ⌝ }
+{
+    RECORD_SIZE * (numbers::power(n) - 1)
+}
+
+// Number c, from 0, of record k, from 1.
+fn number_at(records: &[i32], k: usize, c: usize) -> i32
+    requires { ⌜ Recorded (now records) k × (c < recordSize) ⌝ }
+    ensures { λ r. ⌜ r ≡ numberAt (now (records .entry)) k c ⌝ }
+{
+    records[RECORD_SIZE * (k - 1) + c]
+}
+
+// Whether a child of record k is node 0 or an earlier record of a lower variable.
+fn child_fits(records: &[i32], k: usize, child: i32) -> bool
+    requires { ⌜ Recorded (now records) k ⌝ }
+    ensures { λ r. ⌜ r ≡ childFits (now (records .entry)) k child ⌝ }
+{
+    if !is_below(child, k) {
+        return false;
+    }
+    if child == 0 {
+        return true;
+    }
+    number_at(records, child as usize, 0) < number_at(records, k, 0)
+}
+
+// Whether record k passes Walk's check.
+fn record_fits(n: usize, records: &[i32], k: usize) -> bool
+    requires { ⌜ (1 ≤ n) × Recorded (now records) k ⌝ }
+    ensures { λ r. ⌜ r ≡ recordFits n (now (records .entry)) k ⌝ }
+{
+    if !is_below(number_at(records, k, 0), n) {
+        return false;
+    }
+    if !child_fits(records, k, number_at(records, k, 1)) {
+        return false;
+    }
+    if !child_fits(records, k, number_at(records, k, 2)) {
+        return false;
+    }
+    is_within(-16777215, 16777215, number_at(records, k, 3))
+}
+
+// Whether every record does.
+fn records_fit(n: usize, records: &[i32]) -> bool
+    requires { ⌜ 1 ≤ n ⌝ }
+    ensures { λ r. ⌜ r ≡ every (recordFits n (now (records .entry))) (range 1 (recordCount (now (records .entry)))) ⌝ }
+{
+    let count = records.len() / RECORD_SIZE;
+    let mut k = 1;
+    while k <= count {
+        if !record_fits(n, records, k) {
+            return false;
+        }
+        k += 1;
+    }
+    true
+}
+
+// Whether a record list passes Walk's check.
+fn list_fits(n: usize, records: &[i32]) -> bool
+    requires { ⌜ isVariables n ≡ true ⌝ }
+    ensures { λ r. ⌜ r ≡ listFits n (now (records .entry)) ⌝ }
+{
+    if records.len() % RECORD_SIZE != 0 {
+        return false;
+    }
+    if node_room(n) < records.len() {
+        return false;
+    }
+    records_fit(n, records)
+}
+
+// What reading a variable at a node gives: a weight, and the next node.
+pub struct Edge {
+    pub weight: i32,
+    pub node: usize,
+}
+
+// The edge that X takes from node k at variable i, or none where k is node 0 or a record of another variable.
+fn edge_at(records: &[i32], i: usize, k: usize, x: usize) -> Edge
+    requires { ⌜ (i < 12) × Walkable (now records) k ⌝ }
+    ensures { λ r. ⌜ r ≡ edgeAt (now (records .entry)) i k x ⌝ }
+{
+    if k == 0 {
+        return Edge { weight: 0, node: 0 };
+    }
+    if number_at(records, k, 0) != i as i32 {
+        return Edge { weight: 0, node: k };
+    }
+    if (x >> i) % 2 == 1 {
+        return Edge {
+            weight: number_at(records, k, 3),
+            node: number_at(records, k, 2) as usize,
+        };
+    }
+    Edge {
+        weight: 0,
+        node: number_at(records, k, 1) as usize,
+    }
+}
+
+// The offset plus the weights of the 1-edges on the path from the root.
+fn walk_value(n: usize, offset: i32, records: &[i32], x: usize) -> i32
+    requires { ⌜ Passing n offset (now records) ⌝ }
+    ensures { λ r. ⌜ r ≡ walkValue n offset (now (records .entry)) x ⌝ }
+{
+    let mut value = offset;
+    let mut i = n;
+    let mut k = records.len() / RECORD_SIZE;
+    while 0 < i {
+        i -= 1;
+        let edge = edge_at(records, i, k, x);
+        value += edge.weight;
+        k = edge.node;
+    }
+    value
+}
+
+// The value that a record list gives at X.
+pub fn walk(n: usize, offset: i32, records: &[i32], x: usize) -> Walked
+    ensures { λ r. ⌜ walked r ≡ walk n offset (now (records .entry)) x ⌝ }
+{
+    if !is_variables(n) {
+        return Walked::Refused(1);
+    }
+    if !is_within(-8388608, 8388607, offset) {
+        return Walked::Refused(5);
+    }
+    if !list_fits(n, records) {
+        return Walked::Refused(6);
+    }
+    if numbers::power(n) <= x {
+        return Walked::Refused(7);
+    }
+    Walked::Value(walk_value(n, offset, records, x))
+}
+
+// Number k of cut h in a row of all cuts.
+fn in_cut(row: &[usize], h: usize, k: usize) -> usize
+    requires { ⌜ (h < 64) × (cutPlace h + k < length (now row)) ⌝ }
+    ensures { λ r. ⌜ r ≡ getD (now (row .entry)) (cutPlace h + k) 0 ⌝ }
+{
+    row[numbers::power(h) - 1 + k]
+}
+
+// The first value of block j of height i.
+fn first_of_block(table: &[i32], i: usize, j: usize) -> i32
+    requires { ⌜ (i < 64) × (j * 2 ^ i < length (now table)) ⌝ }
+    ensures { λ r. ⌜ r ≡ first (block (now (table .entry)) i j) ⌝ }
+{
+    table[j * numbers::power(i)]
+}
+
+// The weight of block j, whose halves have height i.
+fn weight_of_block(table: &[i32], i: usize, j: usize) -> i32
+    requires { ⌜ every isValue (now table) ≡ true ⌝ }
+    requires { ⌜ (i < 64) × ((j * 2 + 1) * 2 ^ i < length (now table)) ⌝ }
+    ensures { λ r. ⌜ r ≡ first (block (now (table .entry)) i (j * 2 + 1)) -ℤ first (block (now (table .entry)) i (j * 2)) ⌝ }
+{
+    first_of_block(table, i, j * 2 + 1) - first_of_block(table, i, j * 2)
+}
+
+// Whether halves of these classes and this weight differ as values.
+fn halves_differ(low: usize, high: usize, weight: i32) -> bool
+    ensures { λ r. ⌜ r ≡ not (eqb low high && eqZ weight (pos 0)) ⌝ }
+{
+    if low != high {
+        return true;
+    }
+    weight != 0
+}
+
+// What Build learns of a class: the nodes of its halves, its weight, and whether it branches.
+pub struct Fork {
+    pub low: usize,
+    pub high: usize,
+    pub weight: i32,
+    pub branching: bool,
+}
+
+// The fork of class c of cut h, read at the class's first block.
+fn fork_at(
+    n: usize,
+    h: usize,
+    c: usize,
+    table: &[i32],
+    classes: &[usize],
+    firsts: &[usize],
+    row: &[usize],
+) -> Fork
+    requires { ⌜ Forking n h c (now table) (now classes) (now firsts) (now row) ⌝ }
+    ensures { λ r. ⌜ r ≡ forkOf n (now (table .entry)) (n - suc h) (classAt n (now (table .entry)) h c) ⌝ }
+{
+    let j = in_cut(firsts, h, c);
+    let low = in_cut(classes, h + 1, j * 2);
+    let high = in_cut(classes, h + 1, j * 2 + 1);
+    let weight = weight_of_block(table, n - (h + 1), j);
+    Fork {
+        low: in_cut(row, h + 1, low),
+        high: in_cut(row, h + 1, high),
+        weight,
+        branching: halves_differ(low, high, weight),
+    }
+}
+
+// A record's numbers, behind those of the records made.
+fn write_record(
+    nodes: &mut [i32],
+    made: usize,
+    variable: usize,
+    low: usize,
+    high: usize,
+    weight: i32,
+)
+    requires { ⌜ recordSize * made + recordSize ≤ length (now nodes) ⌝ }
+    requires { ⌜ (variable < 4096) × ((low < 4096) × (high < 4096)) ⌝ }
+    ensures { λ _. ⌜ now (nodes .exit) ≡ overwritten (now (nodes .entry)) (recordSize * made) (recordNumbers (record { variable = variable; low = low; high = high; weight = weight })) ⌝ }
+{
+    let at = RECORD_SIZE * made;
+    nodes[at] = variable as i32;
+    nodes[at + 1] = low as i32;
+    nodes[at + 2] = high as i32;
+    nodes[at + 3] = weight;
 }

@@ -11,6 +11,7 @@ pub mod Order
 pub mod Overwriting
 pub mod Padding
 pub mod Powers
+pub mod Rows
 pub mod Selections
 pub mod Sums
 pub mod Tallies

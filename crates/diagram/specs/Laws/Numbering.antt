@@ -27,7 +27,7 @@ unfolding first
 first-less c values h = getD-map (λ v. v -ℤ c) values 0 (pos 0) (pos 0) h
 
 -- A block's differences have the block's weight.
-weight-of-differences : (i : ℕ) (values : List ℤ) → 2 ^ i < length values → first (upperHalf i (differences values)) -ℤ first (lowerHalf i (differences values)) ≡ first (upperHalf i values) -ℤ first (lowerHalf i values)
+pub weight-of-differences : (i : ℕ) (values : List ℤ) → 2 ^ i < length values → first (upperHalf i (differences values)) -ℤ first (lowerHalf i (differences values)) ≡ first (upperHalf i values) -ℤ first (lowerHalf i values)
 unfolding differences upperHalf lowerHalf
 weight-of-differences i values h =
     ap₂ (λ a b. a -ℤ b)
@@ -42,7 +42,7 @@ module _ (n : ℕ) (table : List ℤ) where
   -- ---- how many there are
 
   -- Those of the variables below i.
-  records-before : (i : ℕ) → length (flatMap (recordsAt n table) (range 0 i)) ≡ recordsBelow n table i
+  pub records-before : (i : ℕ) → length (flatMap (recordsAt n table) (range 0 i)) ≡ recordsBelow n table i
   unfolding range flatMap recordsBelow recordsAt
   records-before zero = refl
   records-before (suc i) =

@@ -1,0 +1,156 @@
+-- Walk's check, test by test: ranges of numbers, a child, a record, all records from one on.
+use Prim.Native.Nat.{ℕ, zero, suc, _+_, _-_, _*_, _≤_, _<_}
+use mathlib.Core.Path.{_≡_, refl, sym, _∙_, ap}
+use mathlib.Core.Bool.{Bool, true, false, _&&_, true≢false, false≢true}
+use mathlib.Core.List.{List}
+use native.Mathlib.Omega.{arith}
+use lib.ListN.{length}
+use lib.Dec.{T, leb, ltb, eqb}
+use lib.IntN.{ℤ, pos, negsuc, natAbs}
+use lib.Signed.{mag, ltZ, leZ, nonNeg}
+use mir.Syntax.{w32, w64}
+use mir.Val.{Fits, SFits, ofZ}
+use mir.Facts.{fits-natAbs, sfits-lit}
+use borrow.Author.Tests.{lt-ltb, le-ltb, le-leb, lt-leb, ltb-true, ltb-false, leb-true, eqb-true, eq-eqb, ne-eqb}
+use Rattle.numbers.specs.Lists.{range, every}
+use Rattle.numbers.specs.Ranges.{mostVariables, isVariables, within, eqZ, isWeight}
+use Rattle.numbers.specs.Laws.Bools.{yes-or-no, both}
+use Rattle.numbers.specs.Laws.Integers.{eqZ-true, eqZ-refl}
+use Rattle.numbers.specs.Laws.Machine.{same-bits}
+use Rattle.diagram.specs.Records.{recordSize}
+use Rattle.diagram.specs.Walk.{variableAt, lowAt, highAt, weightAt, childFits, recordFits, recordCount}
+use Rattle.diagram.specs.Edges.{Recorded}
+
+-- ---- ranges
+
+-- What lies under a range.
+pub under-range : (low high z : ℤ) → ltZ z low ≡ true → within low high z ≡ false
+unfolding within
+under-range (pos a) high (pos b) h = rw (lt-leb a b (ltb-true b a h))
+under-range (pos a) high (negsuc b) h = refl
+under-range (negsuc a) high (pos b) h = absurd (false≢true h)
+under-range (negsuc a) high (negsuc b) h = rw (lt-leb b a (ltb-true a b h))
+
+-- Of what does not, its end decides.
+pub from-range : (low high z : ℤ) → ltZ z low ≡ false → within low high z ≡ leZ z high
+unfolding within
+from-range (pos a) high (pos b) h = rw (le-leb a b (ltb-false b a h))
+from-range (pos a) high (negsuc b) h = absurd (true≢false h)
+from-range (negsuc a) high (pos b) h = refl
+from-range (negsuc a) high (negsuc b) h = rw (le-leb b a (ltb-false a b h))
+
+-- The first of so many numbers from 0.
+pub below-count : (count : ℕ) (z : ℤ) → 1 ≤ count → ltZ z (pos 0) ≡ false → ltb (natAbs z) count ≡ within (pos 0) (pos (count - 1)) z
+unfolding within
+below-count count (pos a) h k =
+    yes-or-no (ltb a count)
+    (λ e. e ∙ sym (rw (le-leb 0 a (omega arith)) (le-leb a (count - 1) (let l = ltb-true a count e in omega arith))))
+    (λ e. e ∙ sym (rw (le-leb 0 a (omega arith)) (lt-leb a (count - 1) (let l = ltb-false a count e in omega arith))))
+below-count count (negsuc a) h k = absurd (true≢false k)
+
+-- Such a number is one without a sign.
+pub counted : (last : ℕ) (z : ℤ) → within (pos 0) (pos last) z ≡ true → (z ≡ pos (natAbs z)) × (natAbs z ≤ last)
+unfolding within
+counted last (pos a) h = (refl, leb-true a last (both (leb 0 a) (leb a last) h .1))
+counted last (negsuc a) h = absurd (false≢true h)
+
+-- It may be cast to an unsigned number of 64 bits.
+pub cast-natural : (z : ℤ) → SFits w32 z → z ≡ pos (natAbs z) → T (nonNeg z) × Fits w64 (natAbs z)
+cast-natural z h e = (rw e tt, fits-natAbs {w = w32} {w′ = w64} tt h)
+
+-- A number of variables.
+pub variables-range : (n : ℕ) → isVariables n ≡ true → (1 ≤ n) × (n ≤ 12)
+unfolding isVariables mostVariables
+variables-range n h = let b = both (leb 1 n) (leb n 12) h in (leb-true 1 n (b .0), leb-true n 12 (b .1))
+
+-- ---- equality
+
+-- Numbers that differ are told apart.
+pub unequal : (a b : ℤ) → (a ≡ b → ⊥) → eqZ a b ≡ false
+unfolding eqZ
+unequal (pos a) (pos b) h = ne-eqb a b (λ e. h (ap pos e))
+unequal (pos a) (negsuc b) h = refl
+unequal (negsuc a) (pos b) h = refl
+unequal (negsuc a) (negsuc b) h = ne-eqb a b (λ e. h (ap negsuc e))
+
+-- Whether the bits of a number are those of 0.
+pub zero-bits : (z : ℤ) → SFits w32 z → eqb (ofZ w32 z) 0 ≡ eqZ z (pos 0)
+zero-bits z h =
+    yes-or-no (eqZ z (pos 0))
+    (λ e. eq-eqb (ofZ w32 z) 0 (ap (ofZ w32) (eqZ-true z (pos 0) e)) ∙ sym e)
+    (λ e. ne-eqb (ofZ w32 z) 0 (λ b. true≢false (sym (eqZ-refl (pos 0)) ∙ ap (λ y. eqZ y (pos 0)) (sym (same-bits w32 z (pos 0) h (sfits-lit tt) b)) ∙ e)) ∙ sym e)
+
+-- A weight's magnitude.
+pub weight-mag : (z : ℤ) → isWeight z ≡ true → mag z ≤ 16777215
+unfolding isWeight within
+weight-mag (pos a) h = leb-true a 16777215 h
+weight-mag (negsuc a) h = let l = leb-true a 16777214 (both (leb a 16777214) true h .0) in omega arith
+
+-- ---- a child
+
+module _ (list : List ℤ) (k : ℕ) where
+  pub child-outside : (child : ℤ) → within (pos 0) (pos (k - 1)) child ≡ false → childFits list k child ≡ false
+  unfolding childFits
+  child-outside child e = rw e
+
+  pub child-terminal : childFits list k (pos 0) ≡ true
+  unfolding childFits within eqZ
+  child-terminal = rw (le-leb 0 (k - 1) (omega arith))
+
+  pub child-record : (child : ℤ) → within (pos 0) (pos (k - 1)) child ≡ true → (child ≡ pos 0 → ⊥) → childFits list k child ≡ ltZ (variableAt list (natAbs child)) (variableAt list k)
+  unfolding childFits
+  child-record child e h = rw (e, unequal child (pos 0) h)
+
+  -- A child that fits is a node before k.
+  pub child-node : (child : ℤ) → childFits list k child ≡ true → (child ≡ pos (natAbs child)) × (natAbs child ≤ k - 1)
+  unfolding childFits
+  child-node child h = counted (k - 1) child (both (within (pos 0) (pos (k - 1)) child) _ h .0)
+
+  -- One that is not node 0 is a record.
+  pub child-recorded : (child : ℤ) → Recorded list k → within (pos 0) (pos (k - 1)) child ≡ true → (child ≡ pos 0 → ⊥) → Recorded list (natAbs child)
+  child-recorded child r e h =
+      let l = counted (k - 1) child e in
+      let among = r .among in
+      let one : natAbs child ≡ 0 → ⊥ = (λ z. h (l .0 ∙ ap pos z)) in
+      record { from-one = omega arith; among = let b = l .1 in omega arith }
+
+-- ---- a record
+
+-- Its numbers are among those of the list.
+pub number-inside : (list : List ℤ) (k c : ℕ) → Recorded list k → c < recordSize → recordSize * (k - 1) + c < length list
+unfolding recordSize recordCount
+number-inside list k c r h = let a = r .from-one in let b = r .among in omega arith
+
+module _ (n : ℕ) (list : List ℤ) (k : ℕ) where
+  pub variable-unfit : within (pos 0) (pos (n - 1)) (variableAt list k) ≡ false → recordFits n list k ≡ false
+  unfolding recordFits
+  variable-unfit a = rw a
+
+  pub low-unfit : within (pos 0) (pos (n - 1)) (variableAt list k) ≡ true → childFits list k (lowAt list k) ≡ false → recordFits n list k ≡ false
+  unfolding recordFits
+  low-unfit a b = rw (a, b)
+
+  pub high-unfit : within (pos 0) (pos (n - 1)) (variableAt list k) ≡ true → childFits list k (lowAt list k) ≡ true → childFits list k (highAt list k) ≡ false → recordFits n list k ≡ false
+  unfolding recordFits
+  high-unfit a b c = rw (a, b, c)
+
+  pub weight-left : within (pos 0) (pos (n - 1)) (variableAt list k) ≡ true → childFits list k (lowAt list k) ≡ true → childFits list k (highAt list k) ≡ true → recordFits n list k ≡ isWeight (weightAt list k)
+  unfolding recordFits
+  weight-left a b c = rw (a, b, c)
+
+-- ---- all records, from one on
+
+-- A run of numbers, of which the first passes: the others decide.
+pub passes-here : (test : ℕ → Bool) (start count : ℕ) → test start ≡ true → 0 < count → every test (range start count) ≡ every test (range (start + 1) (count - 1))
+unfolding range every
+passes-here test start zero e h = absurd (omega arith)
+passes-here test start (suc count) e h = rw (e, let p : start + 1 ≡ suc start = omega arith in p, let q : suc count - 1 ≡ count = omega arith in q)
+
+pub fails-here : (test : ℕ → Bool) (start count : ℕ) → test start ≡ false → 0 < count → every test (range start count) ≡ false
+unfolding range every
+fails-here test start zero e h = absurd (omega arith)
+fails-here test start (suc count) e h = rw e
+
+pub none-left : (test : ℕ → Bool) (start : ℕ) → every test (range start 0) ≡ true
+unfolding range every
+none-left test start = refl

@@ -1,0 +1,254 @@
+-- The fork of a class, read at its first block: the places that are read, the nodes of the halves, and when they differ.
+use Prim.Native.Nat.{ℕ, zero, suc, _+_, _-_, _*_, _^_, _≤_, _<_}
+use mathlib.Core.Path.{_≡_, refl, sym, _∙_, ap, ap₂}
+use mathlib.Core.Bool.{Bool, true, false, not, _&&_, true≢false}
+use mathlib.Core.List.{List, [], _∷_, map, map-id}
+use native.Mathlib.Nat.{mul-le-mul-right, mul-le-mul-left, mul-one, add-zero, two-pow-succ}
+use native.Mathlib.Numerals.{add-one}
+use native.Mathlib.Omega.{arith}
+use lib.ListN.{length, getD}
+use lib.Dec.{eqb}
+use lib.Pow.{pow-pos, pow-mono}
+use lib.IntN.{ℤ, pos, _+ℤ_, _-ℤ_}
+use lib.Signed.{mag}
+use mir.Syntax.{w32}
+use mir.Val.{SFits}
+use borrow.Author.Tests.{eqb-true, eq-eqb}
+use Rattle.numbers.specs.Lists.{every}
+use Rattle.numbers.specs.Ranges.{isValue, eqZ}
+use Rattle.numbers.specs.Laws.Bools.{yes-or-no, both, and-both}
+use Rattle.numbers.specs.Laws.Bounds.{difference-weight}
+use Rattle.numbers.specs.Laws.Integers.{eqZ-true, eqZ-refl, sub-self, sub-add}
+use Rattle.numbers.specs.Laws.Lists.{every-at, map-map, map-same}
+use Rattle.numbers.specs.Laws.Order.{no-difference}
+use Rattle.numbers.specs.Laws.Powers.{part-room, power-split}
+use Rattle.blocks.specs.Blocks.{block, first, lowerHalf, upperHalf, differences}
+use Rattle.blocks.specs.Classes.{same, classes, classCount, classOf}
+use Rattle.blocks.specs.Layout.{cutPlace}
+use Rattle.blocks.specs.Laws.Blocks.{block-at}
+use Rattle.blocks.specs.Laws.Classes.{class-below, class-stands, same-class, class-count-le}
+use Rattle.blocks.specs.Laws.Differences.{differences-again}
+use Rattle.blocks.specs.Laws.Same.{same-true, equal-same}
+use Rattle.diagram.specs.Records.{branches, node}
+use Rattle.diagram.specs.Building.{classAt, forkOf, NodesKnown, Forking}
+use Rattle.diagram.specs.Accepted.{Accepted}
+use Rattle.diagram.specs.declared.Fork.{Fork}
+use Rattle.diagram.specs.Laws.Alike.{lower-of-block, upper-of-block, whole-length}
+use Rattle.diagram.specs.Laws.Checks.{variables-range, weight-mag}
+use Rattle.diagram.specs.Laws.Nodes.{node-differences, same-node}
+use Rattle.diagram.specs.Laws.Numbering.{weight-of-differences}
+use Rattle.diagram.specs.Laws.Places.{place-inside, length-numbers, length-firsts, class-at, first-block}
+use Rattle.diagram.specs.Laws.Shifts.{same-branches, same-lower, same-upper}
+
+-- ---- the weight of a block
+
+-- A block that begins within the table has its number within it.
+pub doubled-inside : (size i j : ℕ) → (j * 2 + 1) * 2 ^ i < size → j * 2 + 1 < size
+doubled-inside size i j h = let m = mul-le-mul-left (j * 2 + 1) (pow-pos i) in let e = mul-one (j * 2 + 1) in omega arith
+
+pub lower-inside : (size i j : ℕ) → (j * 2 + 1) * 2 ^ i < size → j * 2 * 2 ^ i < size
+lower-inside size i j h = let m : j * 2 * 2 ^ i ≤ (j * 2 + 1) * 2 ^ i = mul-le-mul-right (2 ^ i) (omega arith) in omega arith
+
+-- The first value of a block is a value.
+first-is-value : (table : List ℤ) (i j : ℕ) → every isValue table ≡ true → j * 2 ^ i < length table → isValue (first (block table i j)) ≡ true
+unfolding first
+first-is-value table i j values h =
+    ap isValue (block-at table i j 0 (pow-pos i) ∙ ap (λ x. getD table x (pos 0)) (add-zero (j * 2 ^ i)))
+    ∙ every-at isValue table (pos 0) values (j * 2 ^ i) h
+
+pub weight-fits : (table : List ℤ) (i j : ℕ) → every isValue table ≡ true → (j * 2 + 1) * 2 ^ i < length table → SFits w32 (first (block table i (j * 2 + 1)) -ℤ first (block table i (j * 2)))
+weight-fits table i j values h =
+    let m = weight-mag (first (block table i (j * 2 + 1)) -ℤ first (block table i (j * 2))) (difference-weight (first (block table i (j * 2 + 1))) (first (block table i (j * 2))) (first-is-value table i (j * 2 + 1) values h) (first-is-value table i (j * 2) values (lower-inside (length table) i j h))) in
+    record { sfits = omega arith }
+
+-- ---- when halves differ
+
+-- Lists of equal differences that begin alike are equal.
+same-values : (left right : List ℤ) → differences left ≡ differences right → first left ≡ first right → left ≡ right
+unfolding differences
+same-values left right d e =
+    sym (restored left)
+    ∙ ap₂ (λ l f. map (λ v. v +ℤ f) l) d e
+    ∙ restored right
+  where
+    restored : (values : List ℤ) → map (λ v. v +ℤ first values) (map (λ v. v -ℤ first values) values) ≡ values
+    restored values =
+        map-map (λ v. v -ℤ first values) (λ v. v +ℤ first values) values
+        ∙ map-same (λ v. v -ℤ first values +ℤ first values) (λ v. v) values (λ v. sub-add v (first values))
+        ∙ map-id values
+
+-- Blocks of a cut are equal value by value exactly when they have one class and equal first values.
+module _ (n : ℕ) (table : List ℤ) (h : ℕ) (cut : h ≤ n) (j k : ℕ) (inside : j < 2 ^ h) (within : k < 2 ^ h) where
+  abbrev left : List ℤ
+  left = block table (n - h) j
+
+  abbrev right : List ℤ
+  right = block table (n - h) k
+
+  one-class-one-start : (eqb (classOf n table h left) (classOf n table h right) && eqZ (first right -ℤ first left) (pos 0)) ≡ true → left ≡ right
+  one-class-one-start e =
+      let p = both (eqb (classOf n table h left) (classOf n table h right)) (eqZ (first right -ℤ first left) (pos 0)) e in
+      same-values left right
+      (same-class n table h cut j k inside within .0 (eqb-true (classOf n table h left) (classOf n table h right) (p .0)))
+      (sym (no-difference (first right) (first left) (eqZ-true (first right -ℤ first left) (pos 0) (p .1))))
+
+  pub same-blocks : same left right ≡ (eqb (classOf n table h left) (classOf n table h right) && eqZ (first right -ℤ first left) (pos 0))
+  same-blocks =
+      yes-or-no (same left right)
+      (λ e. e ∙ sym (alike (same-true left right e)))
+      (λ e.
+      yes-or-no (eqb (classOf n table h left) (classOf n table h right) && eqZ (first right -ℤ first left) (pos 0))
+      (λ p. absurd (true≢false (sym (equal-same left right (one-class-one-start p)) ∙ e)))
+      (λ p. e ∙ sym p))
+    where
+      alike : left ≡ right → (eqb (classOf n table h left) (classOf n table h right) && eqZ (first right -ℤ first left) (pos 0)) ≡ true
+      alike e =
+          and-both (eqb (classOf n table h left) (classOf n table h right)) (eqZ (first right -ℤ first left) (pos 0))
+          (eq-eqb (classOf n table h left) (classOf n table h right) (ap (classOf n table h) e))
+          (ap (λ z. eqZ z (pos 0)) (ap (λ l. first right -ℤ first l) e ∙ sub-self (first right)) ∙ eqZ-refl (pos 0))
+
+-- ---- the fork of a class
+
+module _ {n h c : ℕ} {table : List ℤ} {classRow firstRow row : List ℕ} (f : Forking n h c table classRow firstRow row) where
+  open Forking f using (accepted, cut, class, numbered, placed, below)
+
+  abbrev half : ℕ
+  half = n - suc h
+
+  whole : n - h ≡ suc half
+  whole = omega arith
+
+  within-n : h ≤ n
+  within-n = let l = cut in omega arith
+
+  cut-small : h < 12
+  cut-small = let v = variables-range n (accepted .variables) .1 in let l = cut in omega arith
+
+  pub cut-fits : (h < 64) × (h + 1 < 64)
+  cut-fits = let s = cut-small in (omega arith, omega arith)
+
+  -- The class's first block.
+  pub first-inside : cutPlace h + c < length firstRow
+  first-inside = rw (placed, length-firsts n table) (place-inside n h c within-n (let m = class-count-le n table h within-n in let l = class in omega arith))
+
+  abbrev pub j : ℕ
+  j = getD firstRow (cutPlace h + c) 0
+
+  place : (j < 2 ^ h) × (differences (block table (suc half) j) ≡ classAt n table h c)
+  place = rw (placed, ← whole) (first-block n table h within-n c class)
+
+  pub first-small : j * 2 + 1 < 2 ^ 64
+  first-small = let p = place .0 in let s = cut-small in let m = pow-mono {i = h} {j = 12} (omega arith) in omega arith
+
+  -- Block b of the next cut: its class, and the node that the row has for it.
+  module _ (b : ℕ) (inside : b < 2 ^ suc h) where
+    is-class : getD classRow (cutPlace (h + 1) + b) 0 ≡ classOf n table (suc h) (block table half b)
+    is-class = rw (numbered, add-one h) (class-at n table (suc h) cut b inside)
+
+    class-place : cutPlace (h + 1) + b < length classRow
+    class-place = rw (numbered, length-numbers n table, add-one h) (place-inside n (suc h) b cut inside)
+
+    class-known : getD classRow (cutPlace (h + 1) + b) 0 < classCount n table (suc h)
+    class-known = rw is-class (class-below n table (suc h) cut b inside)
+
+    node-place : cutPlace (h + 1) + getD classRow (cutPlace (h + 1) + b) 0 < length row
+    node-place =
+        rw (below .places, add-one h)
+        (place-inside n (suc h) (getD classRow (cutPlace (suc h) + b) 0) cut (let k : getD classRow (cutPlace (suc h) + b) 0 < classCount n table (suc h) = rw add-one at class-known in let m = class-count-le n table (suc h) cut in omega arith))
+
+    is-node : getD row (cutPlace (h + 1) + getD classRow (cutPlace (h + 1) + b) 0) 0 ≡ node n table half (block table half b)
+    unfolding classAt
+    is-node =
+        ap (λ k. getD row (cutPlace k + getD classRow (cutPlace (h + 1) + b) 0) 0) (add-one h)
+        ∙ below .known (getD classRow (cutPlace (h + 1) + b) 0) class-known
+        ∙ ap (λ k. node n table half (getD (classes n table (suc h)) k [])) is-class
+        ∙ ap (node n table half) (class-stands n table (suc h) cut b inside)
+        ∙ node-differences n table half (block table half b)
+
+  low-inside : j * 2 < 2 ^ suc h
+  low-inside = let p = place .0 in omega (arith, two-pow-succ h)
+
+  high-inside : j * 2 + 1 < 2 ^ suc h
+  high-inside = let p = place .0 in omega (arith, two-pow-succ h)
+
+  -- The places that are read.
+  pub low-class-place : cutPlace (h + 1) + j * 2 < length classRow
+  low-class-place = class-place (j * 2) low-inside
+
+  pub high-class-place : cutPlace (h + 1) + (j * 2 + 1) < length classRow
+  high-class-place = class-place (j * 2 + 1) high-inside
+
+  abbrev pub low-class : ℕ
+  low-class = getD classRow (cutPlace (h + 1) + j * 2) 0
+
+  abbrev pub high-class : ℕ
+  high-class = getD classRow (cutPlace (h + 1) + (j * 2 + 1)) 0
+
+  pub low-node-place : cutPlace (h + 1) + low-class < length row
+  low-node-place = node-place (j * 2) low-inside
+
+  pub high-node-place : cutPlace (h + 1) + high-class < length row
+  high-node-place = node-place (j * 2 + 1) high-inside
+
+  pub half-fits : n - (h + 1) < 64
+  half-fits = let v = variables-range n (accepted .variables) .1 in omega arith
+
+  pub weight-place : (j * 2 + 1) * 2 ^ half < length table
+  weight-place =
+      let r = part-room (2 ^ (n - half)) half (j * 2 + 1) (rw (let e : n - half ≡ suc h = (let l = cut in omega arith) in e) high-inside) in
+      let p = pow-pos half in
+      let s = accepted .size in
+      omega (arith, power-split n half (omega arith))
+
+  -- The first block's halves are those of the class.
+  abbrev whole-block : List ℤ
+  whole-block = block table (suc half) j
+
+  abbrev lower-block : List ℤ
+  lower-block = block table half (j * 2)
+
+  abbrev upper-block : List ℤ
+  upper-block = block table half (j * 2 + 1)
+
+  place-of-height : j < 2 ^ (n - suc half)
+  place-of-height = rw (let e : n - suc half ≡ h = (let l = cut in omega arith) in e) (place .0)
+
+  height-inside : suc half ≤ n
+  height-inside = let l = cut in omega arith
+
+  is-lower : lowerHalf half whole-block ≡ lower-block
+  is-lower = lower-of-block table half j
+
+  is-upper : upperHalf half whole-block ≡ upper-block
+  is-upper = upper-of-block n table (accepted .size) half j height-inside place-of-height
+
+  alike : differences whole-block ≡ differences (classAt n table h c)
+  alike = sym (ap differences (sym (place .1)) ∙ differences-again whole-block)
+
+  low-is : getD row (cutPlace (h + 1) + low-class) 0 ≡ node n table half (lowerHalf half (classAt n table h c))
+  low-is = is-node (j * 2) low-inside ∙ ap (node n table half) (sym is-lower) ∙ same-node n table half (lowerHalf half whole-block) (lowerHalf half (classAt n table h c)) (same-lower half whole-block (classAt n table h c) alike)
+
+  high-is : getD row (cutPlace (h + 1) + high-class) 0 ≡ node n table half (upperHalf half (classAt n table h c))
+  high-is = is-node (j * 2 + 1) high-inside ∙ ap (node n table half) (sym is-upper) ∙ same-node n table half (upperHalf half whole-block) (upperHalf half (classAt n table h c)) (same-upper half whole-block (classAt n table h c) alike)
+
+  weight-is : first upper-block -ℤ first lower-block ≡ first (upperHalf half (classAt n table h c)) -ℤ first (lowerHalf half (classAt n table h c))
+  weight-is =
+      ap₂ (λ u l. first u -ℤ first l) (sym is-upper) (sym is-lower)
+      ∙ sym (weight-of-differences half whole-block (rw (whole-length n table (accepted .size) (suc half) j height-inside place-of-height) (omega (arith, two-pow-succ half, pow-pos half))))
+      ∙ ap (λ d. first (upperHalf half d) -ℤ first (lowerHalf half d)) (place .1)
+
+  branching-is : not (eqb low-class high-class && eqZ (first upper-block -ℤ first lower-block) (pos 0)) ≡ branches half (classAt n table h c)
+  unfolding branches
+  branching-is =
+      ap₂ (λ a b. not (eqb a b && eqZ (first upper-block -ℤ first lower-block) (pos 0))) (is-class (j * 2) low-inside) (is-class (j * 2 + 1) high-inside)
+      ∙ ap not (sym (same-blocks n table (suc h) cut (j * 2) (j * 2 + 1) low-inside high-inside))
+      ∙ ap₂ (λ l u. not (same l u)) (sym is-lower) (sym is-upper)
+      ∙ same-branches half whole-block (classAt n table h c) alike
+
+  -- What is read is the fork of the class.
+  abbrev pub forkRead : Fork
+  forkRead = record { low = getD row (cutPlace (h + 1) + low-class) 0; high = getD row (cutPlace (h + 1) + high-class) 0; weight = first upper-block -ℤ first lower-block; branching = not (eqb low-class high-class && eqZ (first upper-block -ℤ first lower-block) (pos 0)) }
+
+  pub fork-is : forkRead ≡ forkOf n table half (classAt n table h c)
+  unfolding forkOf
+  fork-is t = record { low = low-is t; high = high-is t; weight = weight-is t; branching = branching-is t }

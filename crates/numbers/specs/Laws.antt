@@ -7,6 +7,7 @@ pub mod Least
 pub mod Lists
 pub mod Machine
 pub mod Order
+pub mod Pieces
 pub mod Powers
 pub mod Tallies
 pub mod Widths

@@ -1,6 +1,9 @@
 -- The paper's "Image", and the operations Run and Expand.
+pub mod Bounds
 pub mod Bytes
 pub mod Cells
 pub mod Commands
+pub mod Laws
 pub mod Reader
 pub mod Run
+pub mod WellFormed

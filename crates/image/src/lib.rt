@@ -1,4 +1,15 @@
 // The card image and its reader: a step, Run, Expand. It knows nothing of tables.
+ghost use mathlib.Core.Path.{_≡_};
+ghost use mathlib.Core.Bool.{true, _&&_};
+ghost use Prim.Native.Nat.{_+_, _^_, _≤_, _<_};
+ghost use lib.ListN.{length, getD};
+ghost use Rattle.numbers.specs.Answers.{mapAnswer};
+ghost use Rattle.numbers.specs.Ranges as Ranges;
+ghost use Rattle.numbers.specs.Ranges.{isVariables, isValue, lesser, greater};
+ghost use Rattle.numbers.specs.Widths.{cellBits};
+ghost use Rattle.image.specs.Bounds.{dueOf, widthOf, isEnd, Operand, WithinBounds, CellFits, Due, Follows, checked};
+ghost use Rattle.image.specs.Bytes.{signedAt};
+ghost use Rattle.image.specs.Reader.{cell, due, dueByte, dueSize, commandAt, keepsRules, widthIsLeast, endsWell, placeAfter, judged, step, stepped, start, reading};
 
 // A command of the image with its operands.
 pub enum Command {
@@ -62,4 +73,447 @@ pub enum Ran {
 pub enum Expanded {
     Table,
     Refused(u8),
+}
+
+// The kinds of commands.
+pub enum Kind {
+    Table,
+    Cell,
+    Word,
+    End,
+}
+
+// Whether a whole image is accepted.
+pub enum Checked {
+    Whole,
+    Refused(u8),
+}
+
+// ---- operands
+
+fn byte(image: &[u8], at: usize) -> usize
+    requires { ⌜ at < length (now image) ⌝ }
+    ensures { λ r. ⌜ (r ≡ getD (now (image .entry)) at 0) × (r < 256) ⌝ }
+{
+    image[at] as usize
+}
+
+fn read_one(image: &[u8], at: usize) -> usize
+    requires { ⌜ at + 1 ≤ length (now image) ⌝ }
+    ensures { λ r. ⌜ Operand (now (image .entry)) at 1 r ⌝ }
+{
+    byte(image, at)
+}
+
+fn read_two(image: &[u8], at: usize) -> usize
+    requires { ⌜ at + 2 ≤ length (now image) ⌝ }
+    ensures { λ r. ⌜ Operand (now (image .entry)) at 2 r ⌝ }
+{
+    byte(image, at) * 256 + byte(image, at + 1)
+}
+
+fn read_four(image: &[u8], at: usize) -> usize
+    requires { ⌜ at + 4 ≤ length (now image) ⌝ }
+    ensures { λ r. ⌜ Operand (now (image .entry)) at 4 r ⌝ }
+{
+    read_two(image, at) * 65536 + read_two(image, at + 2)
+}
+
+fn read_signed(image: &[u8], at: usize) -> i32
+    requires { ⌜ at + 4 ≤ length (now image) ⌝ }
+    ensures { λ r. ⌜ r ≡ signedAt (now (image .entry)) at ⌝ }
+{
+    let bits = read_four(image, at);
+    if bits < 2147483648 {
+        return bits as i32;
+    }
+    -1 - ((4294967295 - bits) as i32)
+}
+
+// ---- the command that is due
+
+fn due_kind(place: Place) -> Kind
+    ensures { λ r. ⌜ dueOf r ≡ due place ⌝ }
+{
+    if place.n == 0 {
+        return Kind::Table;
+    }
+    if place.words != 0 {
+        return Kind::Word;
+    }
+    if place.left != 0 {
+        return Kind::Cell;
+    }
+    Kind::End
+}
+
+fn command_byte(kind: Kind) -> usize
+    ensures { λ r. ⌜ r ≡ dueByte (dueOf kind) ⌝ }
+{
+    match kind {
+        Kind::Table => 0x56,
+        Kind::Cell => 0x43,
+        Kind::Word => 0x57,
+        Kind::End => 0x45,
+    }
+}
+
+fn command_size(kind: Kind) -> usize
+    ensures { λ r. ⌜ r ≡ dueSize (dueOf kind) ⌝ }
+{
+    match kind {
+        Kind::Table => 6,
+        Kind::Cell => 7,
+        Kind::Word => 7,
+        Kind::End => 5,
+    }
+}
+
+fn cell_at(image: &[u8], at: usize) -> Command
+    requires { ⌜ at + 7 ≤ length (now image) ⌝ }
+    ensures { λ r. ⌜ (r ≡ commandAt cell (now (image .entry)) at) × (widthOf r < 256) ⌝ }
+{
+    let group = read_one(image, at + 1);
+    let incoming = read_two(image, at + 2);
+    let outgoing = read_two(image, at + 4);
+    let width = read_one(image, at + 6);
+    Command::Cell {
+        group,
+        incoming,
+        outgoing,
+        width,
+    }
+}
+
+fn command_at(image: &[u8], at: usize, kind: Kind) -> Command
+    requires { ⌜ at + dueSize (dueOf kind) ≤ length (now image) ⌝ }
+    ensures { λ r. ⌜ (r ≡ commandAt (dueOf kind) (now (image .entry)) at) × (widthOf r < 256) ⌝ }
+{
+    match kind {
+        Kind::Table => {
+            let n = read_one(image, at + 1);
+            let offset = read_signed(image, at + 2);
+            Command::Table { n, offset }
+        }
+        Kind::Cell => cell_at(image, at),
+        Kind::Word => {
+            let class = read_two(image, at + 1);
+            let weight = read_signed(image, at + 3);
+            Command::Word { class, weight }
+        }
+        Kind::End => {
+            let bits = read_four(image, at + 1);
+            Command::End { bits }
+        }
+    }
+}
+
+// ---- the rules
+
+fn within(low: i32, high: i32, number: i32) -> bool
+    ensures { λ r. ⌜ r ≡ Ranges.within low high number ⌝ }
+{
+    if low <= number {
+        return number <= high;
+    }
+    false
+}
+
+fn table_keeps(n: usize, offset: i32) -> bool
+    ensures { λ r. ⌜ r ≡ (isVariables n && isValue offset) ⌝ }
+{
+    if n < 1 {
+        return false;
+    }
+    if 12 < n {
+        return false;
+    }
+    within(-8388608, 8388607, offset)
+}
+
+// The rules of a cell but that of its width, which is judged after its last word.
+fn cell_keeps(place: Place, group: usize, incoming: usize, outgoing: usize) -> bool
+    requires { ⌜ WithinBounds place ⌝ }
+    ensures { λ r. ⌜ r ≡ keepsRules place (Command.Cell group incoming outgoing 0) ⌝ }
+{
+    if group < 1 {
+        return false;
+    }
+    if place.left < group {
+        return false;
+    }
+    if incoming != place.classes {
+        return false;
+    }
+    if outgoing < 1 {
+        return false;
+    }
+    if 4096 < outgoing {
+        return false;
+    }
+    if group == place.left {
+        if outgoing != 1 {
+            return false;
+        }
+    }
+    numbers::rail_width(incoming as u32) + group <= 12
+}
+
+fn word_keeps(place: Place, class: usize, weight: i32) -> bool
+    requires { ⌜ WithinBounds place ⌝ }
+    ensures { λ r. ⌜ r ≡ keepsRules place (Command.Word class weight) ⌝ }
+{
+    if place.classes <= class {
+        return false;
+    }
+    if place.words % (1 << place.group) == 0 {
+        if weight != 0 {
+            return false;
+        }
+    }
+    within(-16777215, 16777215, weight)
+}
+
+fn keeps_rules(place: Place, command: Command) -> bool
+    requires { ⌜ WithinBounds place ⌝ }
+    ensures { λ r. ⌜ r ≡ keepsRules place command ⌝ }
+{
+    match command {
+        Command::Table { n, offset } => table_keeps(n, offset),
+        Command::Cell {
+            group,
+            incoming,
+            outgoing,
+            width: _,
+        } => cell_keeps(place, group, incoming, outgoing),
+        Command::Word { class, weight } => word_keeps(place, class, weight),
+        Command::End { bits } => bits == place.bits,
+    }
+}
+
+fn width_is_least(place: Place) -> bool
+    ensures { λ r. ⌜ r ≡ widthIsLeast place ⌝ }
+{
+    if 0 < place.words {
+        return true;
+    }
+    place.width == numbers::weight_width(place.least, place.greatest)
+}
+
+fn is_end(command: Command) -> bool
+    ensures { λ r. ⌜ r ≡ isEnd command ⌝ }
+{
+    match command {
+        Command::Table { n: _, offset: _ } => false,
+        Command::Cell {
+            group: _,
+            incoming: _,
+            outgoing: _,
+            width: _,
+        } => false,
+        Command::Word {
+            class: _,
+            weight: _,
+        } => false,
+        Command::End { bits: _ } => true,
+    }
+}
+
+fn ends_well(image: &[u8], place: Place, command: Command) -> bool
+    requires { ⌜ place .at < 2 ^ 63 ⌝ }
+    ensures { λ r. ⌜ r ≡ endsWell (now (image .entry)) place command ⌝ }
+{
+    if is_end(command) {
+        return image.len() == place.at + 5;
+    }
+    true
+}
+
+// ---- the next place
+
+fn cell_bits(incoming: usize, group: usize, outgoing: usize, width: usize) -> usize
+    requires { ⌜ CellFits incoming group outgoing width ⌝ }
+    ensures { λ r. ⌜ r ≡ cellBits incoming group outgoing width ⌝ }
+{
+    let address = numbers::rail_width(incoming as u32) + group;
+    let word = numbers::rail_width(outgoing as u32) + width;
+    (1 << address) * word
+}
+
+fn after_table(place: Place, n: usize, offset: i32) -> Place
+    requires { ⌜ place .at < 2 ^ 63 ⌝ }
+    ensures { λ r. ⌜ r ≡ placeAfter place (Command.Table n offset) ⌝ }
+{
+    Place {
+        at: place.at + 6,
+        n,
+        left: n,
+        classes: 1,
+        words: 0,
+        group: 0,
+        width: 0,
+        least: 0,
+        greatest: 0,
+        bits: 0,
+    }
+}
+
+fn after_cell(place: Place, group: usize, incoming: usize, outgoing: usize, width: usize) -> Place
+    requires { ⌜ Follows place (Command.Cell group incoming outgoing width) ⌝ }
+    ensures { λ r. ⌜ r ≡ placeAfter place (Command.Cell group incoming outgoing width) ⌝ }
+{
+    Place {
+        at: place.at + 7,
+        n: place.n,
+        left: place.left - group,
+        classes: outgoing,
+        words: incoming * (1 << group),
+        group,
+        width,
+        least: 0,
+        greatest: 0,
+        bits: place.bits + cell_bits(incoming, group, outgoing, width),
+    }
+}
+
+fn lesser_of(a: i32, b: i32) -> i32
+    ensures { λ r. ⌜ r ≡ lesser a b ⌝ }
+{
+    if a <= b { a } else { b }
+}
+
+fn greater_of(a: i32, b: i32) -> i32
+    ensures { λ r. ⌜ r ≡ greater a b ⌝ }
+{
+    if a <= b { b } else { a }
+}
+
+fn after_word(place: Place, class: usize, weight: i32) -> Place
+    requires { ⌜ Follows place (Command.Word class weight) ⌝ }
+    ensures { λ r. ⌜ r ≡ placeAfter place (Command.Word class weight) ⌝ }
+{
+    Place {
+        at: place.at + 7,
+        n: place.n,
+        left: place.left,
+        classes: place.classes,
+        words: place.words - 1,
+        group: place.group,
+        width: place.width,
+        least: lesser_of(place.least, weight),
+        greatest: greater_of(place.greatest, weight),
+        bits: place.bits,
+    }
+}
+
+fn after_end(place: Place, bits: usize) -> Place
+    requires { ⌜ place .at < 2 ^ 63 ⌝ }
+    ensures { λ r. ⌜ r ≡ placeAfter place (Command.End bits) ⌝ }
+{
+    Place {
+        at: place.at + 5,
+        n: place.n,
+        left: place.left,
+        classes: place.classes,
+        words: place.words,
+        group: place.group,
+        width: place.width,
+        least: place.least,
+        greatest: place.greatest,
+        bits: place.bits,
+    }
+}
+
+fn place_after(place: Place, command: Command) -> Place
+    requires { ⌜ Follows place command ⌝ }
+    ensures { λ r. ⌜ r ≡ placeAfter place command ⌝ }
+{
+    match command {
+        Command::Table { n, offset } => after_table(place, n, offset),
+        Command::Cell {
+            group,
+            incoming,
+            outgoing,
+            width,
+        } => after_cell(place, group, incoming, outgoing, width),
+        Command::Word { class, weight } => after_word(place, class, weight),
+        Command::End { bits } => after_end(place, bits),
+    }
+}
+
+// ---- the step
+
+// What is judged of a command whose operands are all there.
+fn judge(image: &[u8], place: Place, command: Command) -> Step
+    requires { ⌜ Due place command ⌝ }
+    ensures { λ r. ⌜ stepped r ≡ judged (now (image .entry)) place command ⌝ }
+{
+    if keeps_rules(place, command) {
+        if ends_well(image, place, command) {
+            return Step::Read(command, place_after(place, command));
+        }
+        return Step::Refused(14);
+    }
+    Step::Refused(13)
+}
+
+// One step of the reader, in the paper's order of checks.
+pub fn read_step(image: &[u8], place: Place) -> Step
+    requires { ⌜ WithinBounds place ⌝ }
+    ensures { λ r. ⌜ stepped r ≡ step (now (image .entry)) place ⌝ }
+{
+    if !width_is_least(place) {
+        return Step::Refused(13);
+    }
+    let at = place.at;
+    if image.len() <= at {
+        return Step::Refused(11);
+    }
+    let kind = due_kind(place);
+    if byte(image, at) != command_byte(kind) {
+        return Step::Refused(12);
+    }
+    if image.len() - at < command_size(kind) {
+        return Step::Refused(11);
+    }
+    judge(image, place, command_at(image, at, kind))
+}
+
+// ---- the whole image
+
+fn start_place() -> Place
+    ensures { λ r. ⌜ r ≡ start ⌝ }
+{
+    Place {
+        at: 0,
+        n: 0,
+        left: 0,
+        classes: 0,
+        words: 0,
+        group: 0,
+        width: 0,
+        least: 0,
+        greatest: 0,
+        bits: 0,
+    }
+}
+
+// The image is checked from the left, a step at a time.
+fn check(image: &[u8]) -> Checked
+    ensures { λ r. ⌜ checked r ≡ mapAnswer (λ commands. tt) (reading (now (image .entry))) ⌝ }
+{
+    let mut place = start_place();
+    loop {
+        match read_step(image, place) {
+            Step::Refused(number) => {
+                return Checked::Refused(number);
+            }
+            Step::Read(command, next) => {
+                if is_end(command) {
+                    return Checked::Whole;
+                }
+                place = next;
+            }
+        }
+    }
 }

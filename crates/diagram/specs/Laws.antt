@@ -2,6 +2,7 @@
 pub mod Alike
 pub mod BranchingClasses
 pub mod Checks
+pub mod CutRecords
 pub mod Edges
 pub mod Fits
 pub mod Forks

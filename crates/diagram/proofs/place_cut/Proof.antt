@@ -1,46 +1,52 @@
+-- `diagram::place_cut` meets its contract. The loop's invariant: the classes before c are placed. Assumes nothing.
+use Prim.Native.Nat.{_+_, _-_, _<_}
+use mathlib.Core.Path.{_≡_}
+use native.Mathlib.Omega.{arith}
+use Rattle.blocks.specs.Classes.{classCount}
+use Rattle.diagram.specs.Laws.CutRecords.{CutSoFar, cut-start, row-length, nodes-kept, cut-forking, cut-record-room, cut-next, cut-done}
 use Rattle.diagram.proofs.place_cut.Statement.{statement}
 use Rattle.diagram.proofs.place_cut.Tie as tie
-use Rattle.diagram.proofs.place_cut.Reads as reads
-use Rattle.diagram.proofs.place_cut.Lts as lts
-use Rattle.diagram.proofs.place_class.Reads as place-class-reads
 
 abbrev Inv-loop : tie.InvT-loop
-Inv-loop n h count before table classes firsts row₀ nodes₀ made₀ c₀ row nodes made c = ?
+Inv-loop n h count before table classes firsts row₀ nodes₀ made₀ c₀ row nodes made c = CutSoFar n h before table row₀ nodes₀ c made row nodes
 
 abbrev μ-loop : tie.MeasureT-loop
-μ-loop n h count before table classes firsts row₀ nodes₀ made₀ c₀ row nodes made c = ?
+μ-loop n h count before table classes firsts row₀ nodes₀ made₀ c₀ row nodes made c = count - c
 
--- src/lib.rt:353:5
 loop-holds : tie.Need-loop-holds Inv-loop μ-loop
-loop-holds c = ?
+loop-holds c = cut-start (c .before .before .before .pre)
 
--- src/lib.rt:354:9
+-- In a turn the class is one of the cut's.
+below : (i : tie.In-loop Inv-loop μ-loop) → i .before .loop .c < classCount (i .before .before .before .before .before .args .n) (i .before .before .before .before .before .args .table .now) (i .before .before .before .before .before .args .h)
+below i = let l = i .loop-test .taken in let e = i .before .before .before .before .before .pre .classes in omega arith
+
 place-class-requires : tie.Need-place-class-requires Inv-loop μ-loop
-place-class-requires c κs = ?
+place-class-requires c κs =
+    let i = c .before .before in
+    let r = i .before .before .before .before .before .pre in
+    (cut-forking r (i .before .loop .inv) (below i), cut-record-room r (i .before .loop .inv) (below i))
 
--- src/lib.rt:355:9
 add-c : tie.Need-add-c Inv-loop μ-loop
-add-c c = ?
+add-c c = let l = c .before .before .before .before .before .before .loop-test .taken in omega arith
 
--- src/lib.rt:353:5
 loop-less : tie.Need-loop-less Inv-loop μ-loop
-loop-less c = ?
+loop-less c = let l = c .before .before .before .before .before .before .loop-test .taken in omega arith
 
--- src/lib.rt:353:5
 loop-again : tie.Need-loop-again Inv-loop μ-loop
-loop-again c = ?
+loop-again c =
+    let i = c .before .before .before .before .before .before in
+    cut-next (i .before .before .before .before .before .pre) (i .before .loop .inv) (below i) (c .before .before .before .place-class .ensures)
 
--- src/lib.rt:337:1
 same-length : tie.Need-same-length Inv-loop μ-loop
-same-length c = ?
+same-length c = row-length (c .before .before .before .before .before .pre) (c .before .loop .inv)
 
--- src/lib.rt:337:1
 same-length-2 : tie.Need-same-length-2 Inv-loop μ-loop
-same-length-2 c = ?
+same-length-2 c = nodes-kept (c .before .before .before .before .before .pre) (c .before .loop .inv)
 
--- src/lib.rt:337:1
 returns : tie.Need-returns Inv-loop μ-loop
-returns c = ?
+returns c =
+    let r = c .before .before .before .before .before .pre in
+    cut-done r (c .before .loop .inv) (let l = c .loop-test .left in let e = r .classes in omega arith)
 
 pub place-cut-spec : {M : Type 1} → statement M
 place-cut-spec =

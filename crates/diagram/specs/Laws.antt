@@ -1,5 +1,6 @@
 -- Laws about the definitions of this crate, which proofs cite.
 pub mod Alike
+pub mod AllRecords
 pub mod BranchingClasses
 pub mod Checks
 pub mod CutRecords

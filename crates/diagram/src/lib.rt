@@ -321,14 +321,7 @@ fn place_class(
         set_in_cut(row, h, c, fork.low);
         return made;
     }
-    write_record(
-        nodes,
-        made,
-        n - (h + 1),
-        fork.low,
-        fork.high,
-        fork.weight,
-    );
+    write_record(nodes, made, n - (h + 1), fork.low, fork.high, fork.weight);
     set_in_cut(row, h, c, made + 1);
     made + 1
 }
@@ -375,7 +368,15 @@ fn write_records(
     while 0 < h {
         h -= 1;
         made = place_cut(
-            n, h, counts[h], made, table, classes, firsts, &mut row, nodes,
+            n,
+            h,
+            counts[h],
+            made,
+            table,
+            classes,
+            firsts,
+            &mut row,
+            nodes,
         );
     }
     made

@@ -54,7 +54,7 @@ class-own n table h c cut l =
     ap differences (sym e) ∙ differences-again (block table (n - h) _) ∙ e
 
 -- A record has four numbers.
-numbers-length : (rs : List Record) → length (flatMap recordNumbers rs) ≡ recordSize * length rs
+pub numbers-length : (rs : List Record) → length (flatMap recordNumbers rs) ≡ recordSize * length rs
 unfolding recordNumbers recordSize
 numbers-length rs = length-flatMap recordNumbers recordSize (λ r. refl) rs
 
@@ -85,7 +85,7 @@ module _ {n h count before : ℕ} {table : List ℤ} {classRow firstRow row₀ :
   unfolding recordsBelow
   few c =
       let a : length (kinds n table half) ≡ length (branchingFirst n table h c ++ keep (branches half) (drop c (classes n table h))) =
-          ap length (kinds-are n h half cut-sum table ∙ ap (keep (branches half)) (sym (take-append-drop c (classes n table h))) ∙ keep-append (branches half) (take c (classes n table h)) (drop c (classes n table h))) in
+      ap length (kinds-are n h half cut-sum table ∙ ap (keep (branches half)) (sym (take-append-drop c (classes n table h))) ∙ keep-append (branches half) (take c (classes n table h)) (drop c (classes n table h))) in
       let b = length-append (branchingFirst n table h c) (keep (branches half) (drop c (classes n table h))) in
       let e = r .counted in
       omega arith

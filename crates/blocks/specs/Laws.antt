@@ -1,4 +1,5 @@
 -- Laws about the definitions of this crate, which proofs cite.
+pub mod AllCuts
 pub mod Blocks
 pub mod Classes
 pub mod Classing

@@ -88,3 +88,9 @@ pub record CutPlaced (n : ℕ) (table : List ℤ) (h : ℕ) (classes firsts : Li
   pub counted : count ≡ classCount n table h
   pub numbered : classes′ ≡ overwritten classes (cutPlace h) (cutNumbers n table h)
   pub placed : firsts′ ≡ overwritten firsts (cutPlace h) (cutFirsts n table h)
+
+-- What the classing of all cuts leaves in the rows.
+pub record AllClassed (n : ℕ) (table : List ℤ) (classes firsts counts : List ℕ) : Type 0 where
+  pub numbered : classes ≡ allNumbers n table
+  pub placed : firsts ≡ allFirsts n table
+  pub counted : counts ≡ allCounts n table

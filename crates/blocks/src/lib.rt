@@ -1,12 +1,12 @@
 // Blocks of a table, their differences, and the classes of every cut.
 ghost use mathlib.Core.Path.{_≡_};
 ghost use mathlib.Core.List.{map};
-ghost use Prim.Native.Nat.{ℕ, _+_, _*_, _≤_, _<_};
-ghost use lib.ListN.{length, getD};
+ghost use Prim.Native.Nat.{ℕ, suc, _+_, _*_, _/_, _≤_, _<_};
+ghost use lib.ListN.{length, getD, take, drop};
 ghost use lib.IntN.{pos, _-ℤ_};
 ghost use Rattle.blocks.specs.Blocks.{first, differences};
 ghost use Rattle.blocks.specs.Classes.{same, numberIn};
-ghost use Rattle.blocks.specs.Layout.{less, part, partDifferences, PartsWithin, CutRoom, CutClassed, CutsRoom, CutPlaced, countNoted, firstsNoted};
+ghost use Rattle.blocks.specs.Layout.{less, part, partDifferences, PartsWithin, CutRoom, CutClassed, CutsRoom, CutPlaced, AllClassed, countNoted, firstsNoted};
 
 // A value less a constant, in a width that holds any such difference.
 fn difference(values: &[i32], x: usize, constant: i32) -> i64
@@ -59,6 +59,15 @@ pub fn same_differences(left: &[i32], right: &[i32]) -> bool
     same_less(left, first_value(left), right, first_value(right))
 }
 
+// Whether the halves of a block are equal value by value: a block whose halves differ branches.
+pub fn same_halves(values: &[i32]) -> bool
+    ensures { λ r. ⌜ r ≡ same (take (length (now (values .entry)) / 2) (now (values .entry))) (drop (length (now (values .entry)) / 2) (now (values .entry))) ⌝ }
+{
+    let middle = values.len() / 2;
+    let upper = &values[middle..];
+    same_values(&values[..middle], upper)
+}
+
 // Whether part j of a table has the differences of these values.
 fn same_part(table: &[i32], size: usize, j: usize, values: &[i32]) -> bool
     requires { ⌜ j * size + size ≤ length (now table) ⌝ }
@@ -77,7 +86,7 @@ fn find_class(table: &[i32], size: usize, firsts: &[usize], values: &[i32]) -> u
     let mut k = 0;
     let class = loop {
         if k == firsts.len() {
-            break k;
+            break firsts.len();
         }
         if same_part(table, size, firsts[k], values) {
             break k;
@@ -149,4 +158,23 @@ fn class_cut_at(
         &mut classes[start..end],
         &mut firsts[start..end],
     )
+}
+
+// The classes of all cuts: each block's class, each class's first block, and the class count of each cut.
+pub fn class_cuts(
+    n: usize,
+    table: &[i32],
+    classes: &mut [usize],
+    firsts: &mut [usize],
+    counts: &mut [usize],
+)
+    requires { ⌜ CutsRoom n (now table) (now classes) (now firsts) ⌝ }
+    requires { ⌜ length (now counts) ≡ suc n ⌝ }
+    ensures { λ r. ⌜ AllClassed n (now (table .entry)) (now (classes .exit)) (now (firsts .exit)) (now (counts .exit)) ⌝ }
+{
+    let mut h = 0;
+    while h <= n {
+        counts[h] = class_cut_at(n, h, table, classes, firsts);
+        h += 1;
+    }
 }

@@ -1,4 +1,8 @@
 -- Laws about the definitions of this crate, which proofs cite.
+pub mod Cards
+pub mod Cells
 pub mod Cheapest
 pub mod Chosen
 pub mod Groupings
+pub mod Lengths
+pub mod Words

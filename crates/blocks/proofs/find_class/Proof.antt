@@ -54,7 +54,7 @@ loop-again c =
 returns : tie.Need-returns Inv-loop μ-loop
 returns c =
     let a = c .before .before .before .args in
-    sym (all-passed (partDifferences (a .table .now) (a .size) (a .firsts .now)) (differences (a .values .now)) (c .before .loop .k) (c .if1 .taken ∙ sym (length-parts (a .table .now) (a .size) (a .firsts .now))) (c .before .loop .inv .1))
+    sym (c .if1 .taken) ∙ sym (all-passed (partDifferences (a .table .now) (a .size) (a .firsts .now)) (differences (a .values .now)) (c .before .loop .k) (c .if1 .taken ∙ sym (length-parts (a .table .now) (a .size) (a .firsts .now))) (c .before .loop .inv .1))
 
 returns-2 : tie.Need-returns-2 Inv-loop μ-loop
 returns-2 c =

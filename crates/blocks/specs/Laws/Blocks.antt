@@ -2,16 +2,16 @@
 use Prim.Native.Nat.{ℕ, zero, suc, _+_, _-_, _*_, _^_, _≤_, _<_}
 use mathlib.Core.Path.{_≡_, refl, sym, _∙_, ap, ap₂}
 use mathlib.Core.List.{List, [], _∷_, _++_, map, flatten}
-use native.Mathlib.Nat.{suc-mul, zero-mul, zero-add, one-mul, min-eq-left}
+use native.Mathlib.Nat.{add-zero, suc-mul, zero-mul, zero-add, one-mul, min-eq-left}
 use native.Mathlib.Omega.{arith}
 use lib.ListN.{length, getD, take, drop, length-take, length-drop, length-map}
 use lib.Seq.{take-take, drop-drop, take-add, take-all, getD-take, getD-drop, take-length}
-use lib.Pow.{pow-pos}
+use lib.Pow.{pow-pos, pow-add}
 use lib.IntN.{ℤ, pos}
 use Rattle.numbers.specs.Lists.{range}
 use Rattle.numbers.specs.Laws.Lists.{length-range, drop-take}
 use Rattle.numbers.specs.Laws.Powers.{power-split, part-room, part-of-part}
-use Rattle.blocks.specs.Blocks.{block, blocks, lowerHalf, upperHalf}
+use Rattle.blocks.specs.Blocks.{block, blocks, first, lowerHalf, upperHalf}
 
 pub blocks-count : (n : ℕ) (table : List ℤ) (i : ℕ) → length (blocks n table i) ≡ 2 ^ (n - i)
 unfolding blocks
@@ -25,6 +25,18 @@ block-length table i j h = simp (length-take, length-drop) (min-eq-left (omega a
 pub block-at : (table : List ℤ) (i j x : ℕ) → x < 2 ^ i → getD (block table i j) x (pos 0) ≡ getD table (j * 2 ^ i + x) (pos 0)
 unfolding block
 block-at table i j x h = getD-take (2 ^ i) (drop (j * 2 ^ i) table) x (pos 0) h ∙ getD-drop (j * 2 ^ i) table x (pos 0)
+
+-- The first value of a block stands where the block begins.
+pub first-of-block : (table : List ℤ) (i j : ℕ) → first (block table i j) ≡ getD table (j * 2 ^ i) (pos 0)
+unfolding first
+first-of-block table i j = block-at table i j 0 (pow-pos i) ∙ ap (λ x. getD table x (pos 0)) (add-zero (j * 2 ^ i))
+
+-- A block at cut h lies within the table.
+pub block-within : (n h j : ℕ) → h ≤ n → j < 2 ^ h → j * 2 ^ (n - h) + 2 ^ (n - h) ≤ 2 ^ n
+block-within n h j cut l =
+    let whole : 2 ^ h * 2 ^ (n - h) ≡ 2 ^ n = (sym (pow-add 2 h (n - h)) ∙ ap (λ k. 2 ^ k) (let e : h + (n - h) ≡ n = omega arith in e)) in
+    let r = part-room (2 ^ h) (n - h) j l in
+    omega arith
 
 -- Blocks side by side are one part of the table.
 blocks-side-by-side : (table : List ℤ) (i j count : ℕ) → flatten (map (block table i) (range j count)) ≡ take (count * 2 ^ i) (drop (j * 2 ^ i) table)
@@ -54,7 +66,7 @@ block-in-block table i k j v h =
     ∙ ap (take (2 ^ i)) (drop-drop (v * 2 ^ i) (j * 2 ^ (k + i)) table ∙ ap (λ n. drop n table) (part-of-part i k j v))
   where
     room : 2 ^ i ≤ 2 ^ (k + i) - v * 2 ^ i
-    room = let m = part-room (2 ^ k) i v h in omega (arith, lib.Pow.pow-add 2 k i)
+    room = let m = part-room (2 ^ k) i v h in omega (arith, pow-add 2 k i)
 
 -- The halves are blocks too.
 pub lower-half-block : (i : ℕ) (values : List ℤ) → lowerHalf i values ≡ block values i 0

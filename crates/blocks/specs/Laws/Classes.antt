@@ -6,14 +6,15 @@ use mathlib.Core.List.{List, [], _∷_, map}
 use native.Mathlib.Nat.{sub-self, pow-zero, mul-one, zero-add}
 use native.Mathlib.Omega.{arith}
 use lib.ListN.{length, getD, take, drop, length-map}
-use lib.Pow.{pow-pos}
+use lib.Pow.{pow-pos, pow-add}
 use lib.IntN.{ℤ, pos, _-ℤ_}
 use Rattle.numbers.specs.Lists.{range}
 use Rattle.numbers.specs.Laws.Lists.{length-range, getD-range, getD-map}
+use Rattle.numbers.specs.Laws.Powers.{part-room}
 use Rattle.blocks.specs.Blocks.{block, blocks, first, differences}
 use Rattle.blocks.specs.Classes.{numberIn, distinct, classes, classCount, classOf}
-use Rattle.blocks.specs.Laws.Blocks.{blocks-count, block-length}
-use Rattle.blocks.specs.Laws.Differences.{single-difference}
+use Rattle.blocks.specs.Laws.Blocks.{blocks-count, block-length, block-within, first-of-block}
+use Rattle.blocks.specs.Laws.Differences.{single-difference, same-parts, same-weight}
 use Rattle.blocks.specs.Laws.Known.{number-at, distinct-known, number-when-met, own-distinct, Among, distinct-seen, distinct-length, distinct-one}
 
 -- The differences of the blocks of cut h, left to right.
@@ -110,3 +111,37 @@ one-class-at-bottom n table e = one-class n table n (omega arith) (pos 0 ∷ [])
     single j l =
         rw sub-self
         (single-difference (block table 0 j) (block-length table 0 j (rw (pow-zero, mul-one) (omega arith)) ∙ pow-zero 2))
+
+-- Blocks of one class share, at every cut below and for every group value, the class of the sub-block and its weight.
+module _ (n : ℕ) (table : List ℤ) (whole : length table ≡ 2 ^ n) (h : ℕ) (cut : h ≤ n) (j k : ℕ) (lj : j < 2 ^ h) (lk : k < 2 ^ h) where
+  pub one-class-shares : classOf n table h (block table (n - h) j) ≡ classOf n table h (block table (n - h) k) → (g v : ℕ) → h + g ≤ n → v < 2 ^ g
+      → (classOf n table (h + g) (block (block table (n - h) j) (n - (h + g)) v) ≡ classOf n table (h + g) (block (block table (n - h) k) (n - (h + g)) v))
+      × (first (block (block table (n - h) j) (n - (h + g)) v) -ℤ first (block table (n - h) j) ≡ first (block (block table (n - h) k) (n - (h + g)) v) -ℤ first (block table (n - h) k))
+  unfolding classOf
+  one-class-shares e g v ends lv = (
+    ap (numberIn (classes n table (h + g))) (same-parts left right alike i v),
+    ap (λ z. z -ℤ first left) (first-of-block left i v)
+        ∙ same-weight left right alike (v * 2 ^ i) within
+        ∙ ap (λ z. z -ℤ first right) (sym (first-of-block right i v)),
+  )
+    where
+      left : List ℤ
+      left = block table (n - h) j
+
+      right : List ℤ
+      right = block table (n - h) k
+
+      i : ℕ
+      i = n - (h + g)
+
+      alike : differences left ≡ differences right
+      alike = same-class n table h cut j k lj lk .0 e
+
+      long : length left ≡ 2 ^ (n - h)
+      long = block-length table (n - h) j (rw whole (block-within n h j cut lj))
+
+      parts : 2 ^ g * 2 ^ i ≡ 2 ^ (n - h)
+      parts = sym (pow-add 2 g i) ∙ ap (λ m. 2 ^ m) (let d : g + (n - (h + g)) ≡ n - h = omega arith in d)
+
+      within : v * 2 ^ i < length left
+      within = let r = part-room (2 ^ g) i v lv in let p = pow-pos i in omega (arith, long, parts)

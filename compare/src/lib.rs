@@ -1,0 +1,3 @@
+//! The proved library as safe functions: the tests hold them against the second program.
+
+pub mod proved;

@@ -1,0 +1,52 @@
+//! The C interface of `include/panstrait.h`. None of its functions requires
+//! anything of its arguments, so every wrapper is safe: it lends the slices it
+//! was lent.
+
+mod c {
+    extern "C" {
+        pub fn panstrait_rail_width(count: u32) -> usize;
+        pub fn panstrait_weight_width(least: i32, greatest: i32) -> usize;
+        pub fn panstrait_classes(
+            n: usize,
+            table: *const i32,
+            table_len: usize,
+            classes: *mut usize,
+            classes_len: usize,
+            firsts: *mut usize,
+            firsts_len: usize,
+            counts: *mut usize,
+            counts_len: usize,
+        ) -> bool;
+    }
+}
+
+pub fn rail_width(count: u32) -> usize {
+    unsafe { c::panstrait_rail_width(count) }
+}
+
+pub fn weight_width(least: i32, greatest: i32) -> usize {
+    unsafe { c::panstrait_weight_width(least, greatest) }
+}
+
+/// The classes of all cuts, into the three rows; false where a size is wrong.
+pub fn classes(
+    n: usize,
+    table: &[i32],
+    classes: &mut [usize],
+    firsts: &mut [usize],
+    counts: &mut [usize],
+) -> bool {
+    unsafe {
+        c::panstrait_classes(
+            n,
+            table.as_ptr(),
+            table.len(),
+            classes.as_mut_ptr(),
+            classes.len(),
+            firsts.as_mut_ptr(),
+            firsts.len(),
+            counts.as_mut_ptr(),
+            counts.len(),
+        )
+    }
+}

@@ -1,0 +1,82 @@
+-- Classing cut after cut: what the rows of all cuts hold on the way, and that they are whole at the end.
+use Prim.Native.Nat.{ℕ, zero, suc, _+_, _-_, _^_, _≤_, _<_}
+use mathlib.Core.Path.{_≡_, refl, sym, _∙_, ap, ap₂, subst}
+use mathlib.Core.List.{List, [], _∷_, _++_, map, flatMap, append-nil}
+use native.Mathlib.Nat.{zero-add, pow-zero}
+use native.Mathlib.Numerals.{add-one}
+use native.Mathlib.Omega.{arith}
+use lib.ListN.{length, take, set, length-set}
+use lib.Seq.{take-length, take-suc-set}
+use lib.IntN.{ℤ}
+use Rattle.numbers.specs.Lists.{range, overwritten}
+use Rattle.numbers.specs.Laws.Lists.{range-suc}
+use Rattle.numbers.specs.Laws.Overwriting.{take-overwritten, length-overwritten}
+use Rattle.numbers.specs.Laws.Tallies.{flatMap-append, map-append}
+use Rattle.blocks.specs.Classes.{classCount}
+use Rattle.blocks.specs.Layout.{cutNumbers, cutFirsts, allNumbers, allFirsts, allCounts, cutPlace, CutsRoom, CutPlaced, AllClassed}
+use Rattle.blocks.specs.Laws.Cuts.{length-cut-numbers, length-cut-firsts, cut-end, cut-within}
+
+-- The rows while the cuts before h are classed.
+pub record CutsSoFar (n : ℕ) (table : List ℤ) (h : ℕ) (classes firsts counts : List ℕ) : Type 0 where
+  pub inside : h ≤ suc n
+  pub rows : CutsRoom n table classes firsts
+  pub countRow : length counts ≡ suc n
+  pub numbered : take (cutPlace h) classes ≡ flatMap (cutNumbers n table) (range 0 h)
+  pub placed : take (cutPlace h) firsts ≡ flatMap (cutFirsts n table) (range 0 h)
+  pub counted : take h counts ≡ map (classCount n table) (range 0 h)
+
+pub no-cut : (n : ℕ) (table : List ℤ) (classes firsts counts : List ℕ) → CutsRoom n table classes firsts → length counts ≡ suc n → CutsSoFar n table 0 classes firsts counts
+unfolding cutPlace range flatMap
+no-cut n table classes firsts counts rows e =
+    record { inside = omega arith; rows = rows; countRow = e; numbered = refl; placed = refl; counted = refl }
+
+-- A run of lists and one more.
+one-more : (f : ℕ → List ℕ) (h : ℕ) → flatMap f (range 0 h) ++ f h ≡ flatMap f (range 0 (suc h))
+unfolding flatMap
+one-more f h =
+    ap (λ l. flatMap f (range 0 h) ++ l) (sym (append-nil (f h)))
+    ∙ sym (flatMap-append f (range 0 h) (h ∷ []))
+    ∙ ap (flatMap f) (ap (λ k. range 0 h ++ k ∷ []) (sym (zero-add h)) ∙ sym (range-suc 0 h))
+
+-- A row with cut h at its place.
+row-grows : (n h : ℕ) (f : ℕ → List ℕ) (row : List ℕ) → h ≤ n → length (f h) ≡ 2 ^ h → length row ≡ cutPlace (suc n) → take (cutPlace h) row ≡ flatMap f (range 0 h) → take (cutPlace (suc h)) (overwritten row (cutPlace h) (f h)) ≡ flatMap f (range 0 (suc h))
+row-grows n h f row cut l e s =
+    ap (λ k. take k (overwritten row (cutPlace h) (f h))) (sym (ap (λ m. cutPlace h + m) l ∙ cut-end n h cut))
+    ∙ take-overwritten row (cutPlace h) (f h) (let w = cut-within n h cut in omega arith)
+    ∙ ap (λ k. k ++ f h) s
+    ∙ one-more f h
+
+row-stays : (n h : ℕ) (new row : List ℕ) → h ≤ n → length new ≡ 2 ^ h → length row ≡ cutPlace (suc n) → length (overwritten row (cutPlace h) new) ≡ cutPlace (suc n)
+row-stays n h new row cut l e = length-overwritten row (cutPlace h) new (let w = cut-within n h cut in omega arith) ∙ e
+
+module _ (n : ℕ) (table : List ℤ) (h : ℕ) (classes firsts counts : List ℕ) (s : CutsSoFar n table h classes firsts counts) (cut : h ≤ n) where
+  -- One cut more.
+  pub cuts-next : (count : ℕ) (classes′ firsts′ : List ℕ) → CutPlaced n table h classes firsts count classes′ firsts′ → CutsSoFar n table (h + 1) classes′ firsts′ (set counts h count)
+  cuts-next count classes′ firsts′ p =
+      subst (λ k. CutsSoFar n table k classes′ firsts′ (set counts h count)) (sym (add-one h))
+      (record {
+        inside = omega arith;
+        rows = record {
+          variables = s .rows .variables;
+          whole = s .rows .whole;
+          classRow = ap length (p .numbered) ∙ row-stays n h (cutNumbers n table h) classes cut (length-cut-numbers n h cut table) (s .rows .classRow);
+          firstRow = ap length (p .placed) ∙ row-stays n h (cutFirsts n table h) firsts cut (length-cut-firsts n h cut table) (s .rows .firstRow);
+        };
+        countRow = length-set counts h count ∙ s .countRow;
+        numbered = ap (take (cutPlace (suc h))) (p .numbered) ∙ row-grows n h (cutNumbers n table) classes cut (length-cut-numbers n h cut table) (s .rows .classRow) (s .numbered);
+        placed = ap (take (cutPlace (suc h))) (p .placed) ∙ row-grows n h (cutFirsts n table) firsts cut (length-cut-firsts n h cut table) (s .rows .firstRow) (s .placed);
+        counted =
+            take-suc-set counts h count (let r = s .countRow in omega arith)
+            ∙ ap₂ (λ l k. l ++ k ∷ []) (s .counted) (p .counted)
+            ∙ sym (map-append (classCount n table) (range 0 h) (h ∷ []))
+            ∙ ap (map (classCount n table)) (ap (λ k. range 0 h ++ k ∷ []) (sym (zero-add h)) ∙ sym (range-suc 0 h));
+      })
+
+-- When all cuts are classed, the rows are whole.
+pub cuts-done : (n : ℕ) (table : List ℤ) (classes firsts counts : List ℕ) → CutsSoFar n table (suc n) classes firsts counts → AllClassed n table classes firsts counts
+unfolding allNumbers allFirsts allCounts
+cuts-done n table classes firsts counts s = record {
+  numbered = sym (ap (λ k. take k classes) (sym (s .rows .classRow)) ∙ take-length classes) ∙ s .numbered;
+  placed = sym (ap (λ k. take k firsts) (sym (s .rows .firstRow)) ∙ take-length firsts) ∙ s .placed;
+  counted = sym (ap (λ k. take k counts) (sym (s .countRow)) ∙ take-length counts) ∙ s .counted;
+}

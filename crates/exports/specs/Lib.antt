@@ -1,0 +1,2 @@
+-- What the C interface answers: results, and what it leaves behind references and in lent buffers.
+pub mod Classing

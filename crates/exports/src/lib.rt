@@ -1,0 +1,59 @@
+// The C interface. No function here requires anything of its caller; a refusal leaves every lent buffer as it was.
+ghost use mathlib.Core.Path.{_≡_};
+ghost use mathlib.Core.List.{[], _∷_};
+ghost use Rattle.numbers.specs.Widths.{railWidth, weightWidth};
+ghost use Rattle.exports.specs.Classing.{sizesFit, Classed};
+
+// The rail width of so many classes.
+#[no_mangle]
+pub extern "C" fn panstrait_rail_width(count: u32) -> usize
+    ensures { λ r. ⌜ r ≡ railWidth count ⌝ }
+{
+    numbers::rail_width(count)
+}
+
+// The weight width of a cell, from its least and its greatest weight.
+#[no_mangle]
+pub extern "C" fn panstrait_weight_width(least: i32, greatest: i32) -> usize
+    ensures { λ r. ⌜ r ≡ weightWidth (least ∷ greatest ∷ []) ⌝ }
+{
+    numbers::weight_width(least, greatest)
+}
+
+// Whether a table and three rows, given by their lengths, have the sizes that the classes of all cuts need.
+fn sizes_fit(n: usize, values: usize, blocks: usize, firsts: usize, cuts: usize) -> bool
+    ensures { λ r. ⌜ r ≡ sizesFit n values blocks firsts cuts ⌝ }
+{
+    if 12 < n {
+        return false;
+    }
+    if values != numbers::power(n) {
+        return false;
+    }
+    let places = numbers::power(n + 1) - 1;
+    if blocks != places {
+        return false;
+    }
+    if firsts != places {
+        return false;
+    }
+    cuts == n + 1
+}
+
+// The classes of all cuts: each block's class, each class's first block, and the class count of each cut.
+#[no_mangle]
+pub extern "C" fn panstrait_classes(
+    n: usize,
+    table: &[i32],
+    classes: &mut [usize],
+    firsts: &mut [usize],
+    counts: &mut [usize],
+) -> bool
+    ensures { λ r. ⌜ Classed n (now (table .entry)) (now (classes .entry)) (now (firsts .entry)) (now (counts .entry)) r (now (classes .exit)) (now (firsts .exit)) (now (counts .exit)) ⌝ }
+{
+    if sizes_fit(n, table.len(), classes.len(), firsts.len(), counts.len()) {
+        blocks::class_cuts(n, table, classes, firsts, counts);
+        return true;
+    }
+    false
+}

@@ -1,0 +1,46 @@
+/*
+ * Edge-valued diagrams and LUT cascades for integer tables.
+ *
+ * A slice is a pointer to its first element and the number of its elements.
+ * The pointer is never null, not even for an empty slice, and what a function
+ * writes overlaps none of its other arguments. Nothing else is required of a
+ * caller. A refused call leaves whatever it was lent as it was.
+ */
+#ifndef PANSTRAIT_H
+#define PANSTRAIT_H
+
+#include <stdbool.h>
+#include <stddef.h>
+#include <stdint.h>
+
+#ifdef __cplusplus
+extern "C" {
+#endif
+
+/* The rail width of so many classes: the least w with count at most 2^w. */
+size_t panstrait_rail_width(uint32_t count);
+
+/*
+ * The weight width of a cell from its least and its greatest weight: the
+ * least two's complement width that holds both, 0 only where both are 0.
+ */
+size_t panstrait_weight_width(int32_t least, int32_t greatest);
+
+/*
+ * The classes of all cuts of a table over n variables. Block j of cut h has
+ * place 2^h - 1 + j: its class in classes, and in firsts the first block of
+ * class j of that cut, 0 past the last class. counts[h] is the number of
+ * classes at cut h. True with the three rows filled where n is at most 12,
+ * the table has 2^n values, classes and firsts have 2^(n+1) - 1 places and
+ * counts has n + 1; else false, and the rows are left as they were.
+ */
+bool panstrait_classes(size_t n, const int32_t *table, size_t table_len,
+                       size_t *classes, size_t classes_len,
+                       size_t *firsts, size_t firsts_len,
+                       size_t *counts, size_t counts_len);
+
+#ifdef __cplusplus
+}
+#endif
+
+#endif

@@ -39,6 +39,15 @@ bool panstrait_classes(size_t n, const int32_t *table, size_t table_len,
                        size_t *firsts, size_t firsts_len,
                        size_t *counts, size_t counts_len);
 
+/*
+ * Walk: 0, and behind value the value at X of a record list over n variables;
+ * else the refusal's number (1, 5, 6 or 7), and value is left as it was. A
+ * record is four numbers: variable, low, high, weight.
+ */
+uint8_t panstrait_walk(size_t n, int32_t offset,
+                       const int32_t *records, size_t records_len, size_t x,
+                       int32_t *value);
+
 #ifdef __cplusplus
 }
 #endif

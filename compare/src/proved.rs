@@ -17,6 +17,14 @@ mod c {
             counts: *mut usize,
             counts_len: usize,
         ) -> bool;
+        pub fn panstrait_walk(
+            n: usize,
+            offset: i32,
+            records: *const i32,
+            records_len: usize,
+            x: usize,
+            value: *mut i32,
+        ) -> u8;
     }
 }
 
@@ -49,4 +57,9 @@ pub fn classes(
             counts.len(),
         )
     }
+}
+
+/// Walk: 0 with the value at X, or the refusal's number.
+pub fn walk(n: usize, offset: i32, records: &[i32], x: usize, value: &mut i32) -> u8 {
+    unsafe { c::panstrait_walk(n, offset, records.as_ptr(), records.len(), x, value) }
 }

@@ -3,6 +3,7 @@ ghost use mathlib.Core.Path.{_≡_};
 ghost use mathlib.Core.List.{[], _∷_};
 ghost use Rattle.numbers.specs.Widths.{railWidth, weightWidth};
 ghost use Rattle.exports.specs.Classing.{sizesFit, Classed};
+ghost use Rattle.exports.specs.Results.{WalkGiven};
 
 // The rail width of so many classes.
 #[no_mangle]
@@ -56,4 +57,25 @@ pub extern "C" fn panstrait_classes(
         return true;
     }
     false
+}
+
+// Walk: the value at X of a record list, or the refusal's number.
+#[no_mangle]
+pub extern "C" fn panstrait_walk(
+    n: usize,
+    offset: i32,
+    records: &[i32],
+    x: usize,
+    value: &mut i32,
+) -> u8
+    ensures { λ r. ⌜ WalkGiven n offset (now (records .entry)) x (now (value .entry)) r (now (value .exit)) ⌝ }
+{
+    let answer = diagram::walk(n, offset, records, x);
+    match answer {
+        diagram::Walked::Value(found) => {
+            *value = found;
+            0
+        }
+        diagram::Walked::Refused(number) => number,
+    }
 }

@@ -1,0 +1,25 @@
+//! The proved operations with the second program's answers. What is lent for a
+//! value holds a pattern at first, which a refusal must leave.
+
+use crate::proved;
+use panstrait_reference::Refusal;
+
+/// What is lent for single values before a call.
+const NUMBER: i32 = 0x5EED_1234;
+
+/// The answer that a result number stands for, and what was lent for values.
+fn answer<T, L: PartialEq>(number: u8, value: T, lent: L, pattern: L) -> Result<T, Refusal> {
+    match number {
+        0 => Ok(value),
+        refusal => {
+            assert!(lent == pattern, "refusal {refusal} changed what was lent");
+            Err(refusal)
+        }
+    }
+}
+
+pub fn walk(n: usize, offset: i32, records: &[i32], x: usize) -> Result<i32, Refusal> {
+    let mut value = NUMBER;
+    let number = proved::walk(n, offset, records, x, &mut value);
+    answer(number, value, value, NUMBER)
+}

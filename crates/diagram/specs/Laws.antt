@@ -1,7 +1,9 @@
 -- Laws about the definitions of this crate, which proofs cite.
 pub mod Alike
+pub mod AllRecords
 pub mod BranchingClasses
 pub mod Checks
+pub mod CutRecords
 pub mod Edges
 pub mod Fits
 pub mod Forks

@@ -2,7 +2,7 @@
 ghost use mathlib.Core.Path.{_≡_};
 ghost use mathlib.Core.Bool.{true, not, _&&_};
 ghost use Prim.Native.Nat.{ℕ, suc, _+_, _-_, _*_, _^_, _≤_, _<_};
-ghost use lib.ListN.{length, getD};
+ghost use lib.ListN.{length, getD, set};
 ghost use lib.Dec.{eqb};
 ghost use lib.IntN.{pos, _-ℤ_};
 ghost use Rattle.numbers.specs.Lists.{range, every, overwritten};
@@ -10,7 +10,7 @@ ghost use Rattle.numbers.specs.Ranges.{isVariables, isValue, within, eqZ};
 ghost use Rattle.blocks.specs.Blocks.{block, first};
 ghost use Rattle.blocks.specs.Layout.{cutPlace};
 ghost use Rattle.diagram.specs.Build.{nodeRoom};
-ghost use Rattle.diagram.specs.Building.{classAt, forkOf, Forking};
+ghost use Rattle.diagram.specs.Building.{classAt, forkOf, Forking, RecordRoom, ClassPlaced, CutReady, CutRecorded, BuildReady, AllRecorded};
 ghost use Rattle.diagram.specs.Records.{recordNumbers, recordSize};
 ghost use Rattle.diagram.specs.Walk.{numberAt, childFits, recordFits, recordCount, listFits, walkValue, walk, walked};
 ghost use Rattle.diagram.specs.Edges.{Recorded, Walkable, Passing, edgeAt};
@@ -211,6 +211,15 @@ fn in_cut(row: &[usize], h: usize, k: usize) -> usize
     row[numbers::power(h) - 1 + k]
 }
 
+// Number k of cut h in a row of all cuts is set.
+fn set_in_cut(row: &mut [usize], h: usize, k: usize, number: usize)
+    requires { ⌜ (h < 64) × (cutPlace h + k < length (now row)) ⌝ }
+    ensures { λ _. ⌜ now (row .exit) ≡ set (now (row .entry)) (cutPlace h + k) number ⌝ }
+{
+    let place = numbers::power(h) - 1 + k;
+    row[place] = number;
+}
+
 // The first value of block j of height i.
 fn first_of_block(table: &[i32], i: usize, j: usize) -> i32
     requires { ⌜ (i < 64) × (j * 2 ^ i < length (now table)) ⌝ }
@@ -289,4 +298,86 @@ fn write_record(
     nodes[at + 1] = low as i32;
     nodes[at + 2] = high as i32;
     nodes[at + 3] = weight;
+}
+
+// Class c of cut h gets its node: that of its lower half where it does not branch, else a new record behind those made.
+fn place_class(
+    n: usize,
+    h: usize,
+    c: usize,
+    made: usize,
+    table: &[i32],
+    classes: &[usize],
+    firsts: &[usize],
+    row: &mut [usize],
+    nodes: &mut [i32],
+) -> usize
+    requires { ⌜ Forking n h c (now table) (now classes) (now firsts) (now row) ⌝ }
+    requires { ⌜ RecordRoom n h c made (now table) (now nodes) ⌝ }
+    ensures { λ r. ⌜ ClassPlaced n h c made (now (table .entry)) (now (row .entry)) (now (nodes .entry)) r (now (row .exit)) (now (nodes .exit)) ⌝ }
+{
+    let fork = fork_at(n, h, c, table, classes, firsts, row);
+    if !fork.branching {
+        set_in_cut(row, h, c, fork.low);
+        return made;
+    }
+    write_record(nodes, made, n - (h + 1), fork.low, fork.high, fork.weight);
+    set_in_cut(row, h, c, made + 1);
+    made + 1
+}
+
+// The classes of cut h get their nodes, and their records stand behind those made.
+fn place_cut(
+    n: usize,
+    h: usize,
+    count: usize,
+    before: usize,
+    table: &[i32],
+    classes: &[usize],
+    firsts: &[usize],
+    row: &mut [usize],
+    nodes: &mut [i32],
+) -> usize
+    requires { ⌜ CutReady n h count before (now table) (now classes) (now firsts) (now row) (now nodes) ⌝ }
+    ensures { λ r. ⌜ CutRecorded n h before (now (table .entry)) (now (row .entry)) (now (nodes .entry)) r (now (row .exit)) (now (nodes .exit)) ⌝ }
+{
+    let mut made = before;
+    let mut c = 0;
+    while c < count {
+        made = place_class(n, h, c, made, table, classes, firsts, row, nodes);
+        c += 1;
+    }
+    made
+}
+
+// The records of a table, from the classes of its cuts, by rising height.
+fn write_records(
+    n: usize,
+    table: &[i32],
+    classes: &[usize],
+    firsts: &[usize],
+    counts: &[usize],
+    nodes: &mut [i32],
+) -> usize
+    requires { ⌜ BuildReady n (now table) (now classes) (now firsts) (now counts) (now nodes) ⌝ }
+    ensures { λ r. ⌜ AllRecorded n (now (table .entry)) (now (nodes .entry)) r (now (nodes .exit)) ⌝ }
+{
+    let mut row = [0usize; 8191];
+    let mut made = 0;
+    let mut h = n;
+    while 0 < h {
+        h -= 1;
+        made = place_cut(
+            n,
+            h,
+            counts[h],
+            made,
+            table,
+            classes,
+            firsts,
+            &mut row,
+            nodes,
+        );
+    }
+    made
 }

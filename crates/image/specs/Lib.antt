@@ -3,6 +3,7 @@ pub mod Bounds
 pub mod Bytes
 pub mod Cells
 pub mod Commands
+pub mod Evaluation
 pub mod Laws
 pub mod Reader
 pub mod Run

@@ -9,7 +9,9 @@ ghost use Rattle.numbers.specs.Ranges.{isVariables, isValue, lesser, greater};
 ghost use Rattle.numbers.specs.Widths.{cellBits};
 ghost use Rattle.image.specs.Bounds.{dueOf, widthOf, isEnd, Operand, WithinBounds, CellFits, Due, Follows, checked};
 ghost use Rattle.image.specs.Bytes.{signedAt};
+ghost use Rattle.image.specs.Evaluation.{Accepted, cardRead, resultOf, firstWalk, wordPlace, cellRead, CellAhead, valuesTo, Expands};
 ghost use Rattle.image.specs.Reader.{cell, due, dueByte, dueSize, commandAt, keepsRules, widthIsLeast, endsWell, placeAfter, judged, step, stepped, start, reading};
+ghost use Rattle.image.specs.Run.{groupValue, runCard, run, ran};
 
 // A command of the image with its operands.
 pub enum Command {
@@ -515,5 +517,149 @@ fn check(image: &[u8]) -> Checked
                 place = next;
             }
         }
+    }
+}
+
+// ---- evaluation of an accepted image
+
+// Where evaluation stands: the next cell, the variables left, the class, and what the cells so far gave.
+pub struct Walk {
+    pub at: usize,
+    pub left: usize,
+    pub class: usize,
+    pub value: i32,
+    pub words: usize,
+}
+
+fn first_walk(image: &[u8]) -> Walk
+    requires { ⌜ 6 ≤ length (now image) ⌝ }
+    ensures { λ r. ⌜ r ≡ firstWalk (now (image .entry)) ⌝ }
+{
+    Walk {
+        at: 6,
+        left: read_one(image, 1),
+        class: 0,
+        value: read_signed(image, 2),
+        words: 0,
+    }
+}
+
+// The bits of X that a group takes: the top ones of the variables left.
+fn group_value(left: usize, group: usize, x: usize) -> usize
+    requires { ⌜ (group ≤ left) × (left ≤ 12) ⌝ }
+    ensures { λ r. ⌜ r ≡ groupValue left group x ⌝ }
+{
+    x / (1 << (left - group)) % (1 << group)
+}
+
+fn word_place(image: &[u8], x: usize, walk: Walk) -> usize
+    requires { ⌜ CellAhead (now image) x walk ⌝ }
+    ensures { λ r. ⌜ r ≡ wordPlace (now (image .entry)) x walk ⌝ }
+{
+    let at = walk.at;
+    let group = read_one(image, at + 1);
+    let v = group_value(walk.left, group, x);
+    at + 7 + 7 * (walk.class * (1 << group) + v)
+}
+
+// One word of the cell ahead is read, at its place.
+fn read_cell(image: &[u8], x: usize, walk: Walk) -> Walk
+    requires { ⌜ CellAhead (now image) x walk ⌝ }
+    ensures { λ r. ⌜ r ≡ cellRead (now (image .entry)) x walk ⌝ }
+{
+    let at = walk.at;
+    let group = read_one(image, at + 1);
+    let incoming = read_two(image, at + 2);
+    let word = word_place(image, x, walk);
+    let class = read_two(image, word + 1);
+    let weight = read_signed(image, word + 3);
+    Walk {
+        at: at + 7 + 7 * (incoming * (1 << group)),
+        left: walk.left - group,
+        class,
+        value: walk.value + weight,
+        words: walk.words + 1,
+    }
+}
+
+// The card's answer at X, from the words in place.
+fn evaluate(image: &[u8], x: usize) -> Walk
+    requires { ⌜ Accepted (now image) ⌝ }
+    ensures { λ r. ⌜ resultOf r ≡ runCard (cardRead (now (image .entry))) x ⌝ }
+{
+    let mut walk = first_walk(image);
+    while 0 < walk.left {
+        walk = read_cell(image, x, walk);
+    }
+    walk
+}
+
+// The number of variables of an accepted image.
+fn variables(image: &[u8]) -> usize
+    requires { ⌜ Accepted (now image) ⌝ }
+    ensures { λ r. ⌜ r ≡ cardRead (now (image .entry)) .n ⌝ }
+{
+    read_one(image, 1)
+}
+
+// ---- Run
+
+fn run_accepted(image: &[u8], x: usize) -> Ran
+    requires { ⌜ Accepted (now image) ⌝ }
+    ensures { λ r. ⌜ ran r ≡ run (now (image .entry)) x ⌝ }
+{
+    if (1 << variables(image)) <= x {
+        return Ran::Refused(7);
+    }
+    let walk = evaluate(image, x);
+    Ran::Value {
+        value: walk.value,
+        words: walk.words,
+    }
+}
+
+// Run: the image is checked whole, then X, then one word is read in each cell.
+pub fn run(image: &[u8], x: usize) -> Ran
+    ensures { λ r. ⌜ ran r ≡ run (now (image .entry)) x ⌝ }
+{
+    match check(image) {
+        Checked::Refused(number) => Ran::Refused(number),
+        Checked::Whole => run_accepted(image, x),
+    }
+}
+
+// ---- Expand
+
+fn fill(image: &[u8], table: &mut [i32])
+    requires { ⌜ Accepted (now image) ⌝ }
+    ensures { λ r. ⌜ now (table .exit) ≡ valuesTo (cardRead (now (image .entry))) (length (now (table .entry))) ⌝ }
+{
+    let mut x = 0;
+    while x < table.len() {
+        let walk = evaluate(image, x);
+        let value = walk.value;
+        table[x] = value;
+        x += 1;
+    }
+}
+
+fn expand_accepted(image: &[u8], table: &mut [i32]) -> Expanded
+    requires { ⌜ Accepted (now image) ⌝ }
+    ensures { λ r. ⌜ Expands (now (image .entry)) (now (table .entry)) r (now (table .exit)) ⌝ }
+{
+    if table.len() != 1 << variables(image) {
+        return Expanded::Refused(2);
+    }
+    fill(image, table);
+    Expanded::Table
+}
+
+// Expand: the image is checked whole, then the buffer, then Run's value is written for every X.
+pub fn expand(image: &[u8], table: &mut [i32]) -> Expanded
+    ensures { λ r. ⌜ Expands (now (image .entry)) (now (table .entry)) r (now (table .exit)) ⌝ }
+{
+    match check(image) {
+        Checked::Refused(number) => Expanded::Refused(number),
+        Checked::Whole => expand_accepted(image, table),
     }
 }

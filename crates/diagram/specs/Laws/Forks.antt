@@ -33,10 +33,10 @@ use Rattle.diagram.specs.Records.{branches, node}
 use Rattle.diagram.specs.Building.{classAt, forkOf, NodesKnown, Forking}
 use Rattle.diagram.specs.Accepted.{Accepted}
 use Rattle.diagram.specs.declared.Fork.{Fork}
-use Rattle.diagram.specs.Laws.Alike.{lower-of-block, upper-of-block, whole-length}
+use Rattle.diagram.specs.Laws.Alike.{BlockLike, lower-of-block, upper-of-block, whole-length, like-lower, like-upper}
 use Rattle.diagram.specs.Laws.Checks.{variables-range, weight-mag}
-use Rattle.diagram.specs.Laws.Nodes.{node-differences, same-node}
-use Rattle.diagram.specs.Laws.Numbering.{weight-of-differences}
+use Rattle.diagram.specs.Laws.Nodes.{node-differences, same-node, node-below}
+use Rattle.diagram.specs.Laws.Numbering.{weight-of-differences, records-count, records-room, below-more}
 use Rattle.diagram.specs.Laws.Places.{place-inside, length-numbers, length-firsts, class-at, first-block}
 use Rattle.diagram.specs.Laws.Shifts.{same-branches, same-lower, same-upper}
 
@@ -153,8 +153,12 @@ module _ {n h c : ℕ} {table : List ℤ} {classRow firstRow row : List ℕ} (f 
 
     node-place : cutPlace (h + 1) + getD classRow (cutPlace (h + 1) + b) 0 < length row
     node-place =
-        rw (below .places, add-one h)
-        (place-inside n (suc h) (getD classRow (cutPlace (suc h) + b) 0) cut (let k : getD classRow (cutPlace (suc h) + b) 0 < classCount n table (suc h) = rw add-one at class-known in let m = class-count-le n table (suc h) cut in omega arith))
+        rw (add-one h)
+        (let k : getD classRow (cutPlace (suc h) + b) 0 < classCount n table (suc h) = rw add-one at class-known in
+        let m = class-count-le n table (suc h) cut in
+        let p = place-inside n (suc h) (getD classRow (cutPlace (suc h) + b) 0) cut (omega arith) in
+        let r = below .places in
+        omega arith)
 
     is-node : getD row (cutPlace (h + 1) + getD classRow (cutPlace (h + 1) + b) 0) 0 ≡ node n table half (block table half b)
     unfolding classAt
@@ -252,3 +256,39 @@ module _ {n h c : ℕ} {table : List ℤ} {classRow firstRow row : List ℕ} (f 
   pub fork-is : forkRead ≡ forkOf n table half (classAt n table h c)
   unfolding forkOf
   fork-is t = record { low = low-is t; high = high-is t; weight = weight-is t; branching = branching-is t }
+
+  -- ---- what is written of it
+
+  -- The class's place in the row of nodes.
+  pub class-row-place : cutPlace h + c < length row
+  class-row-place =
+      let m = class-count-le n table h within-n in
+      let l = class in
+      let p = place-inside n h c within-n (omega arith) in
+      let r = below .places in
+      omega arith
+
+  class-like : BlockLike n table (suc half) (classAt n table h c)
+  class-like = record { place = j; inside = place-of-height; alike = sym alike }
+
+  node-small : (values : List ℤ) → BlockLike n table half values → node n table half values < 4096
+  node-small values b =
+      let l = node-below n table (accepted .size) half values (omega arith) b in
+      let m = below-more n table half n (omega arith) in
+      let r = records-room n table in
+      let e = records-count n table in
+      let p = pow-mono {i = n} {j = 12} (variables-range n (accepted .variables) .1) in
+      omega arith
+
+  -- Its numbers fit.
+  pub fork-small : (half < 4096) × ((node n table half (lowerHalf half (classAt n table h c)) < 4096) × (node n table half (upperHalf half (classAt n table h c)) < 4096))
+  fork-small = (
+    let v = variables-range n (accepted .variables) .1 in omega arith,
+    (
+      node-small (lowerHalf half (classAt n table h c)) (like-lower n table (accepted .size) half (classAt n table h c) height-inside class-like),
+      node-small (upperHalf half (classAt n table h c)) (like-upper n table (accepted .size) half (classAt n table h c) height-inside class-like),
+    ),
+  )
+
+  pub fork-weight-fits : SFits w32 (first (upperHalf half (classAt n table h c)) -ℤ first (lowerHalf half (classAt n table h c)))
+  fork-weight-fits = rw (← weight-is) (weight-fits table half j (accepted .values) weight-place)

@@ -48,6 +48,21 @@ uint8_t panstrait_walk(size_t n, int32_t offset,
                        const int32_t *records, size_t records_len, size_t x,
                        int32_t *value);
 
+/*
+ * Run: 0, and behind value the value of an image at X, behind words the number
+ * of words read for it, one in each cell; else the refusal's number (7, 11,
+ * 12, 13 or 14), and both are left as they were.
+ */
+uint8_t panstrait_run(const uint8_t *image, size_t image_len, size_t x,
+                      int32_t *value, size_t *words);
+
+/*
+ * Expand: 0, and the table buffer holds the value of an image at every X; else
+ * the refusal's number (2, 11, 12, 13 or 14), and the buffer is left as it was.
+ */
+uint8_t panstrait_expand(const uint8_t *image, size_t image_len,
+                         int32_t *table, size_t table_len);
+
 #ifdef __cplusplus
 }
 #endif

@@ -1,14 +1,11 @@
 -- `exports::panstrait_walk` meets its contract: the answer that Walk's enum stands for comes back. Assumes nothing.
 use mathlib.Core.Path.{_≡_, sym, _∙_, ap}
-use mathlib.Core.List.{List}
-use Prim.Native.Nat.{ℕ}
-use lib.IntN.{ℤ}
 use mir.Facts.{toZ-ofZ}
 use borrow.Author.Needs.{needs}
-use Rattle.numbers.specs.Answers.{Answer, accepted, refused}
+use Rattle.numbers.specs.Answers.{accepted, refused}
 use Rattle.diagram.specs.Walk.{walk, walked}
 use Rattle.diagram.specs.declared.Walked.{Walked}
-use Rattle.exports.specs.Results.{WalkGiven, resultOf, leftBehind}
+use Rattle.exports.specs.Laws.Given.{walk-given}
 use Rattle.exports.proofs.panstrait_walk.Statement.{statement}
 use Rattle.exports.proofs.panstrait_walk.Tie as tie
 
@@ -20,10 +17,6 @@ module _ (c : tie.After-walk) where
   answer-is : (answer : Walked) → c .walk .result ≡ answer → walk (start .args .n) (start .args .offset) (start .args .records .now) (start .args .x) ≡ walked answer
   answer-is answer e =
       ap (λ z. walk (start .args .n) z (start .args .records .now) (start .args .x)) (sym (toZ-ofZ (start .fits .offset))) ∙ sym (c .walk .ensures) ∙ ap walked e
-
--- An answer comes back as it is.
-given : (n : ℕ) (offset : ℤ) (records : List ℤ) (x : ℕ) (value : ℤ) (answer : Answer ℤ) → walk n offset records x ≡ answer → WalkGiven n offset records x value (resultOf answer) (leftBehind answer (λ v. v) value)
-given n offset records x value answer e = record { answered = ap resultOf (sym e); valued = ap (λ a. leftBehind a (λ v. v) value) (sym e) }
 
 walk-requires : tie.Need-walk-requires
 walk-requires c κs = search needs
@@ -40,7 +33,7 @@ returns c =
     let at = c .before .before .before in
     let a = start at .args in
     let found = c .before .answer .given .0 .0 in
-    rw (toZ-ofZ (record { sfits = c .known-told .given .0 .1 })) (given (a .n) (a .offset) (a .records .now) (a .x) (a .value .now) (accepted found) (answer-is at _ (c .before .answer .given .1)))
+    rw (toZ-ofZ (record { sfits = c .known-told .given .0 .1 })) (walk-given (a .n) (a .offset) (a .records .now) (a .x) (a .value .now) (accepted found) (answer-is at _ (c .before .answer .given .1)))
 
 returns-2 : tie.Need-returns-2
 unfolding walked
@@ -48,7 +41,7 @@ returns-2 c =
     let at = c .before .before .before in
     let a = start at .args in
     let number = c .before .answer2 .given .0 .0 in
-    given (a .n) (a .offset) (a .records .now) (a .x) (a .value .now) (refused number) (answer-is at _ (c .before .answer2 .given .1))
+    walk-given (a .n) (a .offset) (a .records .now) (a .x) (a .value .now) (refused number) (answer-is at _ (c .before .answer2 .given .1))
 
 pub panstrait-walk-spec : {M : Type 1} → statement M
 panstrait-walk-spec =

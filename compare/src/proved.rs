@@ -17,6 +17,27 @@ mod c {
             counts: *mut usize,
             counts_len: usize,
         ) -> bool;
+        pub fn panstrait_walk(
+            n: usize,
+            offset: i32,
+            records: *const i32,
+            records_len: usize,
+            x: usize,
+            value: *mut i32,
+        ) -> u8;
+        pub fn panstrait_run(
+            image: *const u8,
+            image_len: usize,
+            x: usize,
+            value: *mut i32,
+            words: *mut usize,
+        ) -> u8;
+        pub fn panstrait_expand(
+            image: *const u8,
+            image_len: usize,
+            table: *mut i32,
+            table_len: usize,
+        ) -> u8;
     }
 }
 
@@ -49,4 +70,19 @@ pub fn classes(
             counts.len(),
         )
     }
+}
+
+/// Walk: 0 with the value at X, or the refusal's number.
+pub fn walk(n: usize, offset: i32, records: &[i32], x: usize, value: &mut i32) -> u8 {
+    unsafe { c::panstrait_walk(n, offset, records.as_ptr(), records.len(), x, value) }
+}
+
+/// Run: 0 with the value at X and the words read, or the refusal's number.
+pub fn run(image: &[u8], x: usize, value: &mut i32, words: &mut usize) -> u8 {
+    unsafe { c::panstrait_run(image.as_ptr(), image.len(), x, value, words) }
+}
+
+/// Expand: 0 with the table, or the refusal's number.
+pub fn expand(image: &[u8], table: &mut [i32]) -> u8 {
+    unsafe { c::panstrait_expand(image.as_ptr(), image.len(), table.as_mut_ptr(), table.len()) }
 }

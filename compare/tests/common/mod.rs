@@ -5,6 +5,9 @@
 #[path = "../../../reference/tests/common/mod.rs"]
 mod reference;
 
+pub mod drafts;
+
+pub use reference::oracle::Cascade;
 pub use reference::tables::{self, Random};
 pub use reference::*;
 

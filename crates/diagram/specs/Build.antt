@@ -1,5 +1,6 @@
 -- Build: what it answers, and what its buffer then holds.
 use Prim.Native.Nat.{ℕ, _-_, _*_, _^_}
+use mathlib.Core.Path.{_≡_}
 use mathlib.Core.List.{List, flatMap}
 use lib.ListN.{length}
 use lib.Dec.{leb, eqb}
@@ -10,6 +11,8 @@ use Rattle.numbers.specs.Ranges.{isVariables, isValue}
 use Rattle.diagram.specs.Records.{Record, records, recordNumbers, recordSize, offset, nodeCount}
 use Rattle.diagram.specs.declared.Built.{Built}
 use Rattle.diagram.specs.declared.Built.the-variants.{Diagram, Refused}
+use Rattle.diagram.specs.declared.Checked.{Checked}
+use Rattle.diagram.specs.declared.Checked.the-variants.{Passed, Refused as Unfit}
 
 -- The checks on a table that Build, Plan and Compile share, in their order: 1, 2, 3.
 unfoldable pub ofTable : {A : Type 0} → ℕ → List ℤ → Answer A → Answer A
@@ -18,6 +21,10 @@ ofTable n table rest =
     (unless (eqb (length table) (2 ^ n)) 2
     (unless (every isValue table) 3
     rest))
+
+-- What those checks alone answer.
+unfoldable pub tableChecks : ℕ → List ℤ → Answer Unit
+tableChecks n table = ofTable n table (accepted tt)
 
 -- The numbers that a node buffer must have room for: those of 2^n - 1 records.
 unfoldable pub nodeRoom : ℕ → ℕ
@@ -43,3 +50,13 @@ buildBuffer n table buffer = bufferAfter (build n table (length buffer)) (flatMa
 unfoldable pub built : Built → Answer Summary
 built (Diagram nodes offset) = accepted (record { nodes = nodes; offset = offset })
 built (Refused number) = refused number
+
+-- Build's promise: its answer, and what its buffer then holds.
+pub record Builds (n : ℕ) (table buffer : List ℤ) (answer : Built) (buffer′ : List ℤ) : Type 0 where
+  pub answered : built answer ≡ buildAnswer n table (length buffer)
+  pub left : buffer′ ≡ buildBuffer n table buffer
+
+-- The paper's answer that the outcome of the checks on a table stands for.
+unfoldable pub checked : Checked → Answer Unit
+checked Passed = accepted tt
+checked (Unfit number) = refused number

@@ -69,7 +69,15 @@ pub record CutRecorded (n h made : ℕ) (table : List ℤ) (row : List ℕ) (nod
   pub noted : row′ ≡ overwritten row (cutPlace h) (map (node n table (n - h)) (classes n table h))
   pub recorded : nodes′ ≡ overwritten nodes (recordSize * made) (flatMap recordNumbers (recordsAt n table (n - suc h)))
 
--- An accepted table, the classes of all its cuts, and a buffer with room for its records.
+-- An accepted table, rows for the classes of all its cuts, and a buffer with room for its records.
+pub record TableRoom (n : ℕ) (table : List ℤ) (classRow firstRow countRow : List ℕ) (nodes : List ℤ) : Type 0 where
+  pub accepted : Accepted n table
+  pub classPlaces : length classRow ≡ cutPlace (suc n)
+  pub firstPlaces : length firstRow ≡ cutPlace (suc n)
+  pub countPlaces : length countRow ≡ suc n
+  pub room : nodeRoom n ≤ length nodes
+
+-- The same with the classes in the rows.
 pub record BuildReady (n : ℕ) (table : List ℤ) (classRow firstRow countRow : List ℕ) (nodes : List ℤ) : Type 0 where
   pub accepted : Accepted n table
   pub numbered : classRow ≡ allNumbers n table

@@ -2,6 +2,7 @@
 pub mod Alike
 pub mod AllRecords
 pub mod BranchingClasses
+pub mod Builds
 pub mod Checks
 pub mod CutRecords
 pub mod Edges

@@ -8,9 +8,10 @@ ghost use lib.IntN.{pos, _-ℤ_};
 ghost use Rattle.numbers.specs.Lists.{range, every, overwritten};
 ghost use Rattle.numbers.specs.Ranges.{isVariables, isValue, within, eqZ};
 ghost use Rattle.blocks.specs.Blocks.{block, first};
-ghost use Rattle.blocks.specs.Layout.{cutPlace};
-ghost use Rattle.diagram.specs.Build.{nodeRoom};
-ghost use Rattle.diagram.specs.Building.{classAt, forkOf, Forking, RecordRoom, ClassPlaced, CutReady, CutRecorded, BuildReady, AllRecorded};
+ghost use Rattle.blocks.specs.Layout.{cutPlace, AllClassed};
+ghost use Rattle.diagram.specs.Accepted.{Accepted};
+ghost use Rattle.diagram.specs.Build.{nodeRoom, tableChecks, checked, Builds};
+ghost use Rattle.diagram.specs.Building.{classAt, forkOf, Forking, RecordRoom, ClassPlaced, CutReady, CutRecorded, TableRoom, BuildReady, AllRecorded};
 ghost use Rattle.diagram.specs.Records.{recordNumbers, recordSize};
 ghost use Rattle.diagram.specs.Walk.{numberAt, childFits, recordFits, recordCount, listFits, walkValue, walk, walked};
 ghost use Rattle.diagram.specs.Edges.{Recorded, Walkable, Passing, edgeAt};
@@ -18,6 +19,12 @@ ghost use Rattle.diagram.specs.Edges.{Recorded, Walkable, Passing, edgeA
 // Build's answer. The records stand in the lent buffer.
 pub enum Built {
     Diagram { nodes: usize, offset: i32 },
+    Refused(u8),
+}
+
+// The outcome of the checks on a table.
+pub enum Checked {
+    Passed,
     Refused(u8),
 }
 
@@ -380,4 +387,96 @@ fn write_records(
         );
     }
     made
+}
+
+// Whether value x is in range.
+fn value_fits(table: &[i32], x: usize) -> bool
+    requires { ⌜ x < length (now table) ⌝ }
+    ensures { λ r. ⌜ r ≡ isValue (getD (now (table .entry)) x (pos 0)) ⌝ }
+{
+    is_within(-8388608, 8388607, table[x])
+}
+
+// Whether every value is.
+fn values_fit(table: &[i32]) -> bool
+    ensures { λ r. ⌜ r ≡ every isValue (now (table .entry)) ⌝ }
+{
+    let mut x = 0;
+    while x < table.len() {
+        if !value_fits(table, x) {
+            return false;
+        }
+        x += 1;
+    }
+    true
+}
+
+// The checks on a table that Build, Plan and Compile share, in their order.
+pub fn check_table(n: usize, table: &[i32]) -> Checked
+    ensures { λ r. ⌜ checked r ≡ tableChecks n (now (table .entry)) ⌝ }
+{
+    if !is_variables(n) {
+        return Checked::Refused(1);
+    }
+    if table.len() != numbers::power(n) {
+        return Checked::Refused(2);
+    }
+    if !values_fit(table) {
+        return Checked::Refused(3);
+    }
+    Checked::Passed
+}
+
+// The classes of all cuts of a table, and from them its records.
+fn record_table(
+    n: usize,
+    table: &[i32],
+    classes: &mut [usize],
+    firsts: &mut [usize],
+    counts: &mut [usize],
+    nodes: &mut [i32],
+) -> usize
+    requires { ⌜ TableRoom n (now table) (now classes) (now firsts) (now counts) (now nodes) ⌝ }
+    ensures { λ r. ⌜ AllRecorded n (now (table .entry)) (now (nodes .entry)) r (now (nodes .exit)) ⌝ }
+    ensures { λ r. ⌜ AllClassed n (now (table .entry)) (now (classes .exit)) (now (firsts .exit)) (now (counts .exit)) ⌝ }
+{
+    blocks::class_cuts(n, table, classes, firsts, counts);
+    write_records(n, table, classes, firsts, counts, nodes)
+}
+
+// Build for a table that passed its checks.
+fn build_checked(n: usize, table: &[i32], nodes: &mut [i32]) -> Built
+    requires { ⌜ Accepted n (now table) ⌝ }
+    ensures { λ r. ⌜ Builds n (now (table .entry)) (now (nodes .entry)) r (now (nodes .exit)) ⌝ }
+{
+    if nodes.len() < node_room(n) {
+        return Built::Refused(4);
+    }
+    let mut classes = [0usize; 8191];
+    let mut firsts = [0usize; 8191];
+    let mut counts = [0usize; 13];
+    let cuts = n + 1;
+    let size = numbers::power(cuts) - 1;
+    let made = record_table(
+        n,
+        table,
+        &mut classes[..size],
+        &mut firsts[..size],
+        &mut counts[..cuts],
+        nodes,
+    );
+    Built::Diagram {
+        nodes: made + 1,
+        offset: blocks::first_value(table),
+    }
+}
+
+// The reduced diagram of a table: its records in the lent buffer, its node count and its offset.
+pub fn build(n: usize, table: &[i32], nodes: &mut [i32]) -> Built
+    ensures { λ r. ⌜ Builds n (now (table .entry)) (now (nodes .entry)) r (now (nodes .exit)) ⌝ }
+{
+    match check_table(n, table) {
+        Checked::Refused(number) => Built::Refused(number),
+        Checked::Passed => build_checked(n, table, nodes),
+    }
 }

@@ -13,4 +13,5 @@ pub mod Rules
 pub mod Running
 pub mod Standing
 pub mod Steps
+pub mod Words
 pub mod Written

@@ -4,7 +4,9 @@ pub mod Bytes
 pub mod Cells
 pub mod Commands
 pub mod Evaluation
+pub mod Kinds
 pub mod Laws
 pub mod Reader
 pub mod Run
+pub mod Theorems
 pub mod WellFormed

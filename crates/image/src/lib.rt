@@ -7,7 +7,8 @@ ghost use Rattle.numbers.specs.Answers.{mapAnswer};
 ghost use Rattle.numbers.specs.Ranges as Ranges;
 ghost use Rattle.numbers.specs.Ranges.{isVariables, isValue, lesser, greater};
 ghost use Rattle.numbers.specs.Widths.{cellBits};
-ghost use Rattle.image.specs.Bounds.{dueOf, widthOf, isEnd, Operand, WithinBounds, CellFits, Due, Follows, checked};
+ghost use Rattle.image.specs.Bounds.{Operand, WithinBounds, CellFits, IsDue, Follows};
+ghost use Rattle.image.specs.Kinds.{dueOf, widthOf, isEnd, checked};
 ghost use Rattle.image.specs.Bytes.{signedAt};
 ghost use Rattle.image.specs.Evaluation.{Accepted, cardRead, resultOf, firstWalk, wordPlace, cellRead, CellAhead, valuesTo, Expands};
 ghost use Rattle.image.specs.Reader.{cell, due, dueByte, dueSize, commandAt, keepsRules, widthIsLeast, endsWell, placeAfter, judged, step, stepped, start, reading};
@@ -447,7 +448,7 @@ fn place_after(place: Place, command: Command) -> Place
 
 // What is judged of a command whose operands are all there.
 fn judge(image: &[u8], place: Place, command: Command) -> Step
-    requires { ⌜ Due place command ⌝ }
+    requires { ⌜ IsDue place command ⌝ }
     ensures { λ r. ⌜ stepped r ≡ judged (now (image .entry)) place command ⌝ }
 {
     if keeps_rules(place, command) {

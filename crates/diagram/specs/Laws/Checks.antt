@@ -3,8 +3,10 @@ use Prim.Native.Nat.{ℕ, zero, suc, _+_, _-_, _*_, _≤_, _<_}
 use mathlib.Core.Path.{_≡_, refl, sym, _∙_, ap}
 use mathlib.Core.Bool.{Bool, true, false, _&&_, true≢false, false≢true}
 use mathlib.Core.List.{List}
+use native.Mathlib.Numerals.{add-one}
 use native.Mathlib.Omega.{arith}
-use lib.ListN.{length}
+use lib.ListN.{length, getD, drop, drop-of-length-le}
+use lib.Seq.{drop-cons}
 use lib.Dec.{T, leb, ltb, eqb}
 use lib.IntN.{ℤ, pos, negsuc, natAbs}
 use lib.Signed.{mag, ltZ, leZ, nonNeg}
@@ -154,3 +156,17 @@ fails-here test start (suc count) e h = rw e
 pub none-left : (test : ℕ → Bool) (start : ℕ) → every test (range start 0) ≡ true
 unfolding range every
 none-left test start = refl
+
+-- The values of a table from one on: the first passes and the others decide, or it fails.
+module _ {A : Type 0} (test : A → Bool) (l : List A) (x : ℕ) where
+  pub passes-at : (d : A) → x < length l → test (getD l x d) ≡ true → every test (drop x l) ≡ every test (drop (x + 1) l)
+  unfolding every
+  passes-at d h e = rw (add-one, drop-cons l x d h) (rw e)
+
+  pub fails-at : (d : A) → x < length l → test (getD l x d) ≡ false → every test (drop x l) ≡ false
+  unfolding every
+  fails-at d h e = rw (drop-cons l x d h) (rw e)
+
+  pub nothing-left : length l ≤ x → every test (drop x l) ≡ true
+  unfolding every
+  nothing-left h = rw (drop-of-length-le l h)

@@ -4,7 +4,8 @@ use native.Mathlib.Omega.{arith}
 use mir.Facts.{fits-of-lt}
 use Rattle.numbers.specs.Ranges.{mostVariables, widestAddress}
 use Rattle.numbers.specs.Laws.Pieces.{shifted-one}
-use Rattle.image.specs.Bounds.{CellFits, mostBits, widthOf}
+use Rattle.image.specs.Bounds.{CellFits, mostBits}
+use Rattle.image.specs.Kinds.{widthOf}
 use Rattle.image.specs.Reader.{placeAfter}
 use Rattle.image.specs.WellFormed.{KeepsShape}
 use Rattle.image.specs.Laws.Bounds.{cell-bits-most, cell-fits, words-most}

@@ -5,7 +5,7 @@ use mir.Val.{ofZ, toZ}
 use borrow.Author.Needs.{needs}
 use Rattle.numbers.specs.Ranges.{lesser, greater}
 use Rattle.image.specs.Laws.Due.{words-due}
-use Rattle.image.specs.Bounds.{kindOf}
+use Rattle.image.specs.Kinds.{kindOf}
 use Prim.Native.Nat.{ℕ}
 use mathlib.Core.Path.{_≡_, refl, sym, _∙_, ap₂}
 use mir.Facts.{toZ-ofZ}

@@ -9,7 +9,8 @@ use Prim.Native.Nat.{ℕ, _-_, _<_, _≤_}
 use mathlib.Core.Path.{_≡_, refl, sym, _∙_, ap, subst}
 use native.Mathlib.Omega.{arith}
 use lib.ListN.{length, getD}
-use Rattle.image.specs.Bounds.{AreBytes, checked}
+use Rattle.image.specs.Bounds.{AreBytes}
+use Rattle.image.specs.Kinds.{checked}
 use Rattle.image.specs.Reader.{step, stepped}
 use Rattle.image.specs.Laws.Reading.{Checking, done, checking-start, checking-refused, checking-last, checking-on, step-moves}
 use Rattle.image.specs.Laws.Steps.{step-accepted}

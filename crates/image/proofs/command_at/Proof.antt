@@ -3,7 +3,7 @@ use mathlib.Core.Path.{_≡_, sym, _∙_, ap, ap₂}
 use native.Mathlib.Omega.{arith}
 use mir.Facts.{toZ-ofZ}
 use lib.ListN.{length}
-use Rattle.image.specs.Bounds.{dueOf, widthOf}
+use Rattle.image.specs.Kinds.{dueOf, widthOf}
 use Rattle.image.specs.Reader.{dueSize, commandAt}
 use Rattle.image.specs.declared.Command.the-variants.{Table, Word, End}
 use borrow.Author.Needs.{needs}

@@ -1,7 +1,7 @@
 -- `image::command_size` meets its contract, kind by kind. Assumes nothing.
 use borrow.Author.Needs.{needs}
 use mathlib.Core.Path.{_≡_, sym, ap}
-use Rattle.image.specs.Bounds.{dueOf}
+use Rattle.image.specs.Kinds.{dueOf}
 use Rattle.image.specs.Reader.{dueSize}
 use Rattle.image.proofs.command_size.Statement.{statement}
 use Rattle.image.proofs.command_size.Tie as tie

@@ -1,6 +1,6 @@
 -- `image::due_kind` meets its contract, test by test. Assumes nothing.
 use mathlib.Core.Path.{_≡_, sym}
-use Rattle.image.specs.Bounds.{dueOf}
+use Rattle.image.specs.Kinds.{dueOf}
 use Rattle.image.specs.Laws.Due.{due-table, due-word, due-cell, due-end}
 use Rattle.image.proofs.due_kind.Statement.{statement}
 use Rattle.image.proofs.due_kind.Tie as tie

@@ -1,7 +1,7 @@
 -- `image::expand` meets its contract. Assumes nothing.
 use mathlib.Core.Path.{_≡_, sym, _∙_, ap}
 use lib.ListN.{length}
-use Rattle.image.specs.Bounds.{checked}
+use Rattle.image.specs.Kinds.{checked}
 use Rattle.image.specs.Laws.Reading.{done}
 use Rattle.image.specs.Laws.Running.{check-refuses, check-accepts, expand-refused, expands-refused}
 use borrow.Author.Needs.{needs}

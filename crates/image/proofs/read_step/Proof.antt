@@ -6,7 +6,7 @@ use mathlib.Core.Bool.{true, false}
 use native.Mathlib.Omega.{arith}
 use lib.ListN.{length, getD}
 use borrow.Author.Tests.{not-true, not-false}
-use Rattle.image.specs.Bounds.{dueOf, kindOf}
+use Rattle.image.specs.Kinds.{dueOf, kindOf}
 use Rattle.image.specs.Reader.{due, dueByte, dueSize, commandAt, widthIsLeast, judged, stepped}
 use Rattle.image.specs.Laws.Steps.{step-wide, step-none, step-other, step-cut, step-judged, command-kind}
 use Rattle.image.proofs.read_step.Statement.{statement}

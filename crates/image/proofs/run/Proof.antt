@@ -1,6 +1,6 @@
 -- `image::run` meets its contract. Assumes nothing.
 use mathlib.Core.Path.{_≡_, sym, _∙_, ap}
-use Rattle.image.specs.Bounds.{checked}
+use Rattle.image.specs.Kinds.{checked}
 use Rattle.image.specs.Run.{ran}
 use Rattle.image.specs.Laws.Reading.{done}
 use Rattle.image.specs.Laws.Running.{check-refuses, check-accepts, run-refused}

@@ -44,7 +44,7 @@ read-one-requires c κs = let r = room (c .before) in omega arith
 
 group-value-requires : tie.Need-group-value-requires
 unfolding mostVariables
-group-value-requires c κs = let e = is-group c in let w = c .before .before .pre .within in let f = c .before .before .pre .few in (omega arith, f)
+group-value-requires c κs = let e = is-group c in let w = c .before .before .pre .within in let f = c .before .before .pre .few in (omega arith, omega arith)
 
 add-result : tie.Need-add-result
 add-result c = fits-of-lt (let r = room (c .before .before .before) in let g = c .before .before .before .good .0 .1 in omega arith)

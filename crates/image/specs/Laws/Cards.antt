@@ -14,7 +14,7 @@ use Rattle.numbers.specs.Ranges.{isVariables, isValue, eqZ, lowest, highest}
 use Rattle.numbers.specs.Widths.{weightWidth}
 use Rattle.numbers.specs.Laws.Bools.{both, and-both}
 use Rattle.numbers.specs.Laws.Widths.{weight-width-zero}
-use Rattle.image.specs.Bounds.{kindOf, isEnd}
+use Rattle.image.specs.Kinds.{kindOf, isEnd}
 use Rattle.image.specs.Cells as cells
 use Rattle.image.specs.Cells.{Card, totalBits}
 use Rattle.image.specs.Commands.{wordCommand, cellCommands, cardCommands, Collected, collect, cardOf}

@@ -13,7 +13,7 @@ use Rattle.numbers.specs.Lists.{sum}
 use Rattle.numbers.specs.Ranges.{lowest, highest}
 use Rattle.numbers.specs.Widths.{weightWidth, cellBits}
 use Rattle.numbers.specs.Laws.Extremes.{width-by-extremes}
-use Rattle.image.specs.Bounds.{kindOf, isEnd}
+use Rattle.image.specs.Kinds.{kindOf, isEnd}
 use Rattle.image.specs.Cells as cells
 use Rattle.image.specs.Cells.{bitsOf, totalBits}
 use Rattle.image.specs.Commands.{wordCommand, cellCommands}

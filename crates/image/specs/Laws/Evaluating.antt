@@ -15,7 +15,7 @@ use Rattle.numbers.specs.Answers.{accepted}
 use Rattle.numbers.specs.Ranges.{mostVariables}
 use Rattle.numbers.specs.Laws.Machine.{mag-add}
 use Rattle.numbers.specs.Laws.Powers.{part-room}
-use Rattle.image.specs.Bounds.{kindOf}
+use Rattle.image.specs.Kinds.{kindOf}
 use Rattle.image.specs.Bytes.{unsignedAt, signedAt}
 use Rattle.image.specs.Cells as cells
 use Rattle.image.specs.Cells.{Card, totalBits}

@@ -11,7 +11,8 @@ use lib.IntN.{ℤ}
 use mir.Syntax.{w32}
 use mir.Val.{SFits, ofZ}
 use Rattle.numbers.specs.Answers.{Answer, accepted}
-use Rattle.image.specs.Bounds.{AreBytes, kindOf}
+use Rattle.image.specs.Bounds.{AreBytes}
+use Rattle.image.specs.Kinds.{kindOf}
 use Rattle.image.specs.Bytes.{bigEndian, signedBytes}
 use Rattle.image.specs.Cells.{Card}
 use Rattle.image.specs.Commands.{commandBytes, cardCommands, imageOf, cardOf}

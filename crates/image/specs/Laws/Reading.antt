@@ -8,7 +8,8 @@ use lib.Dec.{lit<}
 use lib.ListN.{length, getD}
 use Rattle.numbers.specs.Answers.{Answer, accepted, refused, mapAnswer, andThen}
 use Rattle.image.specs.Bytes.{unsignedAt}
-use Rattle.image.specs.Bounds.{AreBytes, widthOf, isEnd, WithinBounds}
+use Rattle.image.specs.Bounds.{AreBytes, WithinBounds}
+use Rattle.image.specs.Kinds.{widthOf, isEnd}
 use Rattle.image.specs.Reader.{Due, table, cell, word, end, due, dueSize, commandAt, placeAfter, step, followedBy, readFrom, start, reading}
 use Rattle.image.specs.Laws.Bounds.{bounds-start, bounds-kept}
 use Rattle.image.specs.Laws.Operands.{unsigned-one}

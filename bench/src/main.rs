@@ -1,12 +1,16 @@
-//! The proved library's speed beside programs in Rust, on the same buffers in
-//! one process. A line for each measurement: what was measured, both times,
+//! The proved library's speed beside programs in Rust, on the same arguments
+//! in one process. A line for each measurement: what was measured, both times,
 //! and their ratio.
 
 mod classes;
+#[path = "../../compare/tests/common/mod.rs"]
+mod common;
+mod evaluation;
 mod same_method;
 mod tables;
 mod timing;
 
 fn main() {
     classes::measure();
+    evaluation::measure();
 }

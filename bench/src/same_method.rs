@@ -47,3 +47,22 @@ fn same_differences(left: &[i32], right: &[i32]) -> bool {
             .zip(right)
             .all(|(&y, &z)| i64::from(y) - from_left == i64::from(z) - from_right)
 }
+
+/// The value of a checked image at X: one word of each cell is read in place.
+pub fn evaluate(image: &[u8], x: usize) -> i32 {
+    let two = |at: usize| usize::from(image[at]) << 8 | usize::from(image[at + 1]);
+    let four = |at: usize| two(at) << 16 | two(at + 2);
+    let mut value = four(2) as i32;
+    let mut left = usize::from(image[1]);
+    let (mut at, mut class) = (6, 0);
+    while left > 0 {
+        let group = usize::from(image[at + 1]);
+        left -= group;
+        let group_value = x >> left & ((1 << group) - 1);
+        let word = at + 7 + 7 * ((class << group) + group_value);
+        at += 7 + 7 * (two(at + 2) << group);
+        class = two(word + 1);
+        value += four(word + 3) as i32;
+    }
+    value
+}

@@ -202,10 +202,12 @@ pub fn walk(n: usize, offset: i32, records: &[i32], x: usize) -> Walked
     if !is_within(-8388608, 8388607, offset) {
         return Walked::Refused(5);
     }
-    if !list_fits(n, records) {
+    let fits = list_fits(n, records);
+    let inside = x < numbers::power(n);
+    if !fits {
         return Walked::Refused(6);
     }
-    if numbers::power(n) <= x {
+    if !inside {
         return Walked::Refused(7);
     }
     Walked::Value(walk_value(n, offset, records, x))
@@ -356,9 +358,9 @@ fn write_records(
 {
     let mut row = [0usize; 8191];
     let mut made = 0;
-    let mut h = n;
-    while 0 < h {
-        h -= 1;
+    let mut i = 0;
+    while i < n {
+        let h = n - 1 - i;
         made = place_cut(
             n,
             h,
@@ -370,6 +372,7 @@ fn write_records(
             &mut row,
             nodes,
         );
+        i += 1;
     }
     made
 }

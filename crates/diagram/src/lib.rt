@@ -13,7 +13,7 @@ ghost use Rattle.blocks.specs.Layout.{cutPlace, AllClassed};
 ghost use Rattle.diagram.specs.Accepted.{Accepted};
 ghost use Rattle.diagram.specs.Build.{nodeRoom, tableChecks, checked, Builds};
 ghost use Rattle.diagram.specs.Building.{forkOf, Forking, RecordRoom, ClassPlaced, CutReady, CutRecorded, TableRoom, BuildReady, AllRecorded};
-ghost use Rattle.diagram.specs.Records.{recordNumbers, recordSize};
+ghost use Rattle.diagram.specs.Records.{branches, recordNumbers, recordSize};
 ghost use Rattle.diagram.specs.Walk.{numberAt, childFits, recordFits, recordCount, listFits, walkValue, walk, walked};
 ghost use Rattle.diagram.specs.Edges.{Recorded, Walkable, Passing, edgeAt};
 
@@ -231,14 +231,16 @@ fn weight_of_block(table: &[i32], i: usize, j: usize) -> i32
     blocks::first_of_block(table, i, j * 2 + 1) - blocks::first_of_block(table, i, j * 2)
 }
 
-// Whether halves of these classes and this weight differ as values.
-fn halves_differ(low: usize, high: usize, weight: i32) -> bool
-    ensures { λ r. ⌜ r ≡ not (eqb low high && eqZ weight (pos 0)) ⌝ }
+// Whether block j, whose halves have height i, branches: its upper half, the part that begins in its middle, differs from
+// its lower half.
+fn block_branches(table: &[i32], i: usize, j: usize) -> bool
+    requires { ⌜ (i < 63) × (j * 2 ^ suc i + 2 ^ suc i ≤ length (now table)) ⌝ }
+    ensures { λ r. ⌜ r ≡ branches i (block (now (table .entry)) (suc i) j) ⌝ }
 {
-    if low != high {
-        return true;
-    }
-    weight != 0
+    let size = numbers::power(i + 1);
+    let start = j * size;
+    let end = start + size;
+    !blocks::same_halves(&table[start..end])
 }
 
 // What Build learns of a class: the nodes of its halves, its weight, and whether it branches.
@@ -270,7 +272,7 @@ fn fork_at(
         low: blocks::in_cut(row, h + 1, low),
         high: blocks::in_cut(row, h + 1, high),
         weight,
-        branching: halves_differ(low, high, weight),
+        branching: block_branches(table, n - (h + 1), j),
     }
 }
 

@@ -5,6 +5,7 @@
 mod classes;
 #[path = "../../compare/tests/common/mod.rs"]
 mod common;
+mod diagrams;
 mod evaluation;
 mod same_method;
 mod tables;
@@ -12,5 +13,6 @@ mod timing;
 
 fn main() {
     classes::measure();
+    diagrams::measure();
     evaluation::measure();
 }

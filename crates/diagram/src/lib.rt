@@ -8,10 +8,11 @@ ghost use lib.IntN.{pos, _-ℤ_};
 ghost use Rattle.numbers.specs.Lists.{range, every, overwritten};
 ghost use Rattle.numbers.specs.Ranges.{isVariables, isValue, within, eqZ};
 ghost use Rattle.blocks.specs.Blocks.{block, first};
+ghost use Rattle.blocks.specs.Classes.{classAt};
 ghost use Rattle.blocks.specs.Layout.{cutPlace, AllClassed};
 ghost use Rattle.diagram.specs.Accepted.{Accepted};
 ghost use Rattle.diagram.specs.Build.{nodeRoom, tableChecks, checked, Builds};
-ghost use Rattle.diagram.specs.Building.{classAt, forkOf, Forking, RecordRoom, ClassPlaced, CutReady, CutRecorded, TableRoom, BuildReady, AllRecorded};
+ghost use Rattle.diagram.specs.Building.{forkOf, Forking, RecordRoom, ClassPlaced, CutReady, CutRecorded, TableRoom, BuildReady, AllRecorded};
 ghost use Rattle.diagram.specs.Records.{recordNumbers, recordSize};
 ghost use Rattle.diagram.specs.Walk.{numberAt, childFits, recordFits, recordCount, listFits, walkValue, walk, walked};
 ghost use Rattle.diagram.specs.Edges.{Recorded, Walkable, Passing, edgeAt};
@@ -201,21 +202,15 @@ pub fn walk(n: usize, offset: i32, records: &[i32], x: usize) -> Walked
     if !is_within(-8388608, 8388607, offset) {
         return Walked::Refused(5);
     }
-    if !list_fits(n, records) {
+    let fits = list_fits(n, records);
+    let inside = x < numbers::power(n);
+    if !fits {
         return Walked::Refused(6);
     }
-    if numbers::power(n) <= x {
+    if !inside {
         return Walked::Refused(7);
     }
     Walked::Value(walk_value(n, offset, records, x))
-}
-
-// Number k of cut h in a row of all cuts.
-fn in_cut(row: &[usize], h: usize, k: usize) -> usize
-    requires { ⌜ (h < 64) × (cutPlace h + k < length (now row)) ⌝ }
-    ensures { λ r. ⌜ r ≡ getD (now (row .entry)) (cutPlace h + k) 0 ⌝ }
-{
-    row[numbers::power(h) - 1 + k]
 }
 
 // Number k of cut h in a row of all cuts is set.
@@ -227,21 +222,13 @@ fn set_in_cut(row: &mut [usize], h: usize, k: usize, number: usize)
     row[place] = number;
 }
 
-// The first value of block j of height i.
-fn first_of_block(table: &[i32], i: usize, j: usize) -> i32
-    requires { ⌜ (i < 64) × (j * 2 ^ i < length (now table)) ⌝ }
-    ensures { λ r. ⌜ r ≡ first (block (now (table .entry)) i j) ⌝ }
-{
-    table[j * numbers::power(i)]
-}
-
 // The weight of block j, whose halves have height i.
 fn weight_of_block(table: &[i32], i: usize, j: usize) -> i32
     requires { ⌜ every isValue (now table) ≡ true ⌝ }
     requires { ⌜ (i < 64) × ((j * 2 + 1) * 2 ^ i < length (now table)) ⌝ }
     ensures { λ r. ⌜ r ≡ first (block (now (table .entry)) i (j * 2 + 1)) -ℤ first (block (now (table .entry)) i (j * 2)) ⌝ }
 {
-    first_of_block(table, i, j * 2 + 1) - first_of_block(table, i, j * 2)
+    blocks::first_of_block(table, i, j * 2 + 1) - blocks::first_of_block(table, i, j * 2)
 }
 
 // Whether halves of these classes and this weight differ as values.
@@ -275,13 +262,13 @@ fn fork_at(
     requires { ⌜ Forking n h c (now table) (now classes) (now firsts) (now row) ⌝ }
     ensures { λ r. ⌜ r ≡ forkOf n (now (table .entry)) (n - suc h) (classAt n (now (table .entry)) h c) ⌝ }
 {
-    let j = in_cut(firsts, h, c);
-    let low = in_cut(classes, h + 1, j * 2);
-    let high = in_cut(classes, h + 1, j * 2 + 1);
+    let j = blocks::in_cut(firsts, h, c);
+    let low = blocks::in_cut(classes, h + 1, j * 2);
+    let high = blocks::in_cut(classes, h + 1, j * 2 + 1);
     let weight = weight_of_block(table, n - (h + 1), j);
     Fork {
-        low: in_cut(row, h + 1, low),
-        high: in_cut(row, h + 1, high),
+        low: blocks::in_cut(row, h + 1, low),
+        high: blocks::in_cut(row, h + 1, high),
         weight,
         branching: halves_differ(low, high, weight),
     }
@@ -371,9 +358,9 @@ fn write_records(
 {
     let mut row = [0usize; 8191];
     let mut made = 0;
-    let mut h = n;
-    while 0 < h {
-        h -= 1;
+    let mut i = 0;
+    while i < n {
+        let h = n - 1 - i;
         made = place_cut(
             n,
             h,
@@ -385,6 +372,7 @@ fn write_records(
             &mut row,
             nodes,
         );
+        i += 1;
     }
     made
 }

@@ -12,7 +12,7 @@ use Rattle.image.specs.Reader.{reading}
 use Rattle.image.specs.Run.{runCard, run, cardValues, expand}
 use Rattle.image.specs.WellFormed.{WellFormed}
 use Rattle.image.specs.Laws.Cards.{card-of}
-use Rattle.image.specs.Laws.Images.{image-of-commands, commands-of-card, card-keeps}
+use Rattle.image.specs.Laws.Images.{image-of-commands, commands-of-card, image-of-card, card-keeps}
 use Rattle.image.specs.Laws.Words.{card-words, run-of-card, expand-entry}
 use Rattle.image.specs.Laws.Written.{image-read, image-run, image-expand}
 use Rattle.image.specs.declared.Command.{Command}
@@ -20,13 +20,23 @@ use Rattle.image.specs.declared.Command.{Command}
 -- ---- an accepted image
 
 module _ (image : List ℕ) (commands : List Command) (h : reading image ≡ accepted commands) where
+  -- It has no other reading.
+  pub one-reading : (others : List Command) → reading image ≡ accepted others → commands ≡ others
+  one-reading others g = cc
+
   -- It is made of its commands' bytes.
   pub accepted-bytes : AreBytes image → image ≡ flatMap commandBytes commands
   accepted-bytes = image-of-commands image commands h
 
-  -- Its commands are those of one card, which keeps every rule.
-  pub accepted-card : (commands ≡ cardCommands (cardOf commands)) × WellFormed (cardOf commands)
-  accepted-card = (commands-of-card image commands h, card-keeps image commands h)
+  -- Its commands are those of one card, which keeps every rule, and the image is that card's.
+  pub accepted-commands : commands ≡ cardCommands (cardOf commands)
+  accepted-commands = commands-of-card image commands h
+
+  pub accepted-card : WellFormed (cardOf commands)
+  accepted-card = card-keeps image commands h
+
+  pub accepted-image : AreBytes image → image ≡ imageOf (cardOf commands)
+  accepted-image = image-of-card image commands h
 
   -- Run answers at every X below 2^n, with one word read for each cell.
   pub accepted-run : (x : ℕ) → x < 2 ^ cardOf commands .n → (run image x ≡ accepted (runCard (cardOf commands) x)) × (runCard (cardOf commands) x .words ≡ length (cardOf commands .cells))

@@ -79,7 +79,7 @@ pub enum Expanded {
 }
 
 // The kinds of commands.
-pub enum Kind {
+enum Kind {
     Table,
     Cell,
     Word,
@@ -87,7 +87,7 @@ pub enum Kind {
 }
 
 // Whether a whole image is accepted.
-pub enum Checked {
+enum Checked {
     Whole,
     Refused(u8),
 }
@@ -484,7 +484,8 @@ pub fn read_step(image: &[u8], place: Place) -> Step
 
 // ---- the whole image
 
-fn start_place() -> Place
+// Where reading starts.
+pub fn start_place() -> Place
     ensures { λ r. ⌜ r ≡ start ⌝ }
 {
     Place {
@@ -524,12 +525,12 @@ fn check(image: &[u8]) -> Checked
 // ---- evaluation of an accepted image
 
 // Where evaluation stands: the next cell, the variables left, the class, and what the cells so far gave.
-pub struct Walk {
-    pub at: usize,
-    pub left: usize,
-    pub class: usize,
-    pub value: i32,
-    pub words: usize,
+struct Walk {
+    at: usize,
+    left: usize,
+    class: usize,
+    value: i32,
+    words: usize,
 }
 
 fn first_walk(image: &[u8]) -> Walk

@@ -14,7 +14,8 @@ use Rattle.numbers.specs.Lists.{overwritten}
 use Rattle.blocks.specs.Blocks.{lowerHalf, upperHalf}
 use Rattle.blocks.specs.Layout.{cutPlace}
 use Rattle.diagram.specs.Records.{branches, node, recordOf, recordNumbers, recordSize}
-use Rattle.diagram.specs.Building.{classAt, forkOf}
+use Rattle.blocks.specs.Classes.{classAt}
+use Rattle.diagram.specs.Building.{forkOf}
 use Rattle.diagram.specs.declared.Fork.{Fork}
 use Rattle.diagram.specs.Laws.Forks.{cut-fits, class-row-place, fork-small, fork-weight-fits}
 use Rattle.diagram.proofs.place_class.Statement.{statement}

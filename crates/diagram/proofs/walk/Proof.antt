@@ -43,35 +43,49 @@ start c = in-range (c .before) ∙ not-false _ (c .if2 .left)
 list-fits-requires : tie.Need-list-fits-requires
 list-fits-requires c κs = variables (c .before .before)
 
+power-requires : tie.Need-power-requires
+power-requires c κs = let v = variables-range _ (variables (c .before .before .before)) .1 in omega arith
+
+-- What is known once the records and X are looked at: the checks passed, and what the others say.
+module _ (c : tie.After-power) where
+  abbrev begun : tie.Start
+  begun = c .before .before .before .before .before .before
+
+  accepted-variables : isVariables (begun .args .n) ≡ true
+  accepted-variables = variables (c .before .before .before .before)
+
+  accepted-start : isValue (begun .args .offset) ≡ true
+  accepted-start = start (c .before .before)
+
+  fits : listFits (begun .args .n) (begun .args .records .now) ≡ c .before .list-fits .result
+  fits = sym (c .before .list-fits .ensures)
+
+  inside : ltb (begun .args .x) (2 ^ begun .args .n) ≡ ltb (begun .args .x) (c .power .result)
+  inside = ap (ltb (begun .args .x)) (sym (c .power .ensures))
+
 returns-3 : tie.Need-returns-3
 unfolding walk walked
-returns-3 c = rw (variables (c .before .before .before .before), start (c .before .before), sym (c .before .list-fits .ensures) ∙ not-true _ (c .if3 .taken))
+returns-3 c = let d = c .before in rw (accepted-variables d, accepted-start d, fits d ∙ not-true _ (c .if3 .taken))
 
-records : (c : tie.Else3) → listFits (c .before .before .before .before .before .before .args .n) (c .before .before .before .before .before .before .args .records .now) ≡ true
-records c = sym (c .before .list-fits .ensures) ∙ not-false _ (c .if3 .left)
-
-power-requires : tie.Need-power-requires
-power-requires c κs = let v = variables-range _ (variables (c .before .before .before .before)) .1 in omega arith
+records : (c : tie.Else3) → listFits (begun (c .before) .args .n) (begun (c .before) .args .records .now) ≡ true
+records c = fits (c .before) ∙ not-false _ (c .if3 .left)
 
 returns-4 : tie.Need-returns-4
 unfolding walk walked
-returns-4 c =
-    let d = c .before .before in
-    let a = d .before .before .before .before .before .before .args in
-    rw (variables (d .before .before .before .before), start (d .before .before), records d, le-ltb (a .x) (2 ^ a .n) (rw (c .before .power .ensures) at (c .if4 .taken)))
+returns-4 c = let d = c .before .before in rw (accepted-variables d, accepted-start d, records (c .before), inside d ∙ not-true _ (c .if4 .taken))
 
 walk-value-requires : tie.Need-walk-value-requires
 walk-value-requires c κs =
     let d = c .before .before in
-    rw (toZ-ofZ (d .before .before .before .before .before .before .fits .offset))
-    (record { variables = variables (d .before .before .before .before); start = start (d .before .before); records = records d })
+    rw (toZ-ofZ (begun d .fits .offset)) (record { variables = accepted-variables d; start = accepted-start d; records = records (c .before) })
 
 returns-5 : tie.Need-returns-5
 unfolding walk walked
 returns-5 c =
-    let d = c .before .before .before in
-    let s = d .before .before .before .before .before .before in
-    rw (variables (d .before .before .before .before), start (d .before .before), records d, lt-ltb (s .args .x) (2 ^ s .args .n) (rw (c .before .before .power .ensures) at (c .before .if4 .left)))
+    let e = c .before in
+    let d = e .before .before in
+    let s = begun d in
+    rw (accepted-variables d, accepted-start d, records (e .before), inside d ∙ not-false _ (e .if4 .left))
     (ap accepted (toZ-ofZ (sfits-of (c .walk-value .ok)) ∙ c .walk-value .ensures ∙ ap (λ z. walkValue (s .args .n) z (s .args .records .now) (s .args .x)) (toZ-ofZ (s .fits .offset))))
 
 pub walk-spec : {M : Type 1} → statement M
@@ -83,8 +97,8 @@ walk-spec =
     is-within-requires
     returns-2
     list-fits-requires
-    returns-3
     power-requires
+    returns-3
     returns-4
     walk-value-requires
     returns-5)

@@ -7,7 +7,7 @@ use lib.ListN.{length, length-set}
 use lib.IntN.{pos}
 use mir.Syntax.{w32}
 use mir.Facts.{toZ-pos, toZ-ofZ}
-use borrow.Author.Needs.{needs, scaled-fits}
+use borrow.Author.Needs.{needs}
 use Rattle.numbers.specs.Laws.Rows.{four-stored}
 use Rattle.diagram.specs.Records.{recordSize, recordNumbers}
 use Rattle.diagram.proofs.write_record.Statement.{statement}
@@ -25,7 +25,7 @@ cast-nodes : tie.Need-cast-nodes
 cast-nodes c = search needs
 
 mul-nodes : tie.Need-mul-nodes
-mul-nodes c = scaled-fits (4 * c .args .made) (length (c .args .nodes .now)) 4 (let r = room c in omega arith) (c .good .0 .1)
+mul-nodes c = let r = room c in let g = c .good .0 .1 in record { fits = omega arith }
 
 slice-set-from-nodes : tie.Need-slice-set-from-nodes
 slice-set-from-nodes c = let r = room c in omega arith
@@ -37,7 +37,7 @@ add-nodes : tie.Need-add-nodes
 add-nodes c = let r = room c in record { fits = omega arith }
 
 mul-nodes-2 : tie.Need-mul-nodes-2
-mul-nodes-2 c = scaled-fits (4 * c .args .made + 1) (length (c .args .nodes .now)) 4 (let r = room c in omega arith) (c .good .0 .1)
+mul-nodes-2 c = let r = room c in let g = c .good .0 .1 in record { fits = omega arith }
 
 slice-set-from-nodes-2 : tie.Need-slice-set-from-nodes-2
 slice-set-from-nodes-2 c = simp length-set (let r = room c in omega arith)
@@ -49,7 +49,7 @@ add-t11 : tie.Need-add-t11
 add-t11 c = let r = room c in record { fits = omega arith }
 
 mul-t9 : tie.Need-mul-t9
-mul-t9 c = scaled-fits (4 * c .args .made + 2) (length (c .args .nodes .now)) 4 (let r = room c in omega arith) (c .good .0 .1)
+mul-t9 c = let r = room c in let g = c .good .0 .1 in record { fits = omega arith }
 
 slice-set-from-nodes-3 : tie.Need-slice-set-from-nodes-3
 slice-set-from-nodes-3 c = simp length-set (let r = room c in omega arith)
@@ -58,7 +58,7 @@ add-weight : tie.Need-add-weight
 add-weight c = let r = room c in record { fits = omega arith }
 
 mul-weight : tie.Need-mul-weight
-mul-weight c = scaled-fits (4 * c .args .made + 3) (length (c .args .nodes .now)) 4 (let r = room c in omega arith) (c .good .0 .1)
+mul-weight c = let r = room c in let g = c .good .0 .1 in record { fits = omega arith }
 
 slice-set-from-weight : tie.Need-slice-set-from-weight
 slice-set-from-weight c = simp length-set (let r = room c in omega arith)

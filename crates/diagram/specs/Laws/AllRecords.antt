@@ -1,8 +1,9 @@
--- The cuts from the bottom up: what the buffer holds when the records of the variables below a height are written.
+-- The heights from the bottom up: what the buffer holds when the records of the variables below i are written.
 use Prim.Native.Nat.{ℕ, zero, suc, _+_, _-_, _*_, _^_, _≤_, _<_}
 use mathlib.Core.Path.{_≡_, refl, sym, _∙_, ap, ap₂, subst}
 use mathlib.Core.List.{List, [], _∷_, _++_, map, flatMap, append-nil}
 use native.Mathlib.Nat.{zero-add, sub-self, sub-zero}
+use native.Mathlib.Numerals.{add-one}
 use native.Mathlib.Omega.{arith}
 use lib.ListN.{length, getD}
 use lib.Pow.{pow-mono}
@@ -17,11 +18,12 @@ use Rattle.blocks.specs.Layout.{cutPlace}
 use Rattle.blocks.specs.Laws.Classes.{class-count-le}
 use Rattle.diagram.specs.Build.{nodeRoom}
 use Rattle.diagram.specs.Records.{recordsBelow, node, Record, recordsAt, records, recordNumbers, recordSize}
-use Rattle.diagram.specs.Building.{classAt, NodesKnown, CutReady, CutRecorded, BuildReady, AllRecorded}
+use Rattle.blocks.specs.Classes.{classAt}
+use Rattle.diagram.specs.Building.{NodesKnown, CutReady, CutRecorded, BuildReady, AllRecorded}
 use Rattle.diagram.specs.Laws.Checks.{variables-range}
 use Rattle.diagram.specs.Laws.CutRecords.{cut-known, numbers-length}
 use Rattle.diagram.specs.Laws.Numbering.{records-before, records-count, records-room, below-more}
-use Rattle.diagram.specs.Laws.Places.{place-inside, length-counts, count-at}
+use Rattle.blocks.specs.Laws.Places.{place-inside, length-counts, count-at}
 
 -- The numbers of the records of the variables below i.
 abbrev pub numbersBelow : ℕ → List ℤ → ℕ → List ℤ
@@ -40,12 +42,12 @@ numbers-below-suc n table i =
     ∙ ap (λ l. flatMap (recordsAt n table) (range 0 i) ++ l) (append-nil (recordsAt n table i)))
     ∙ flatMap-append recordNumbers (flatMap (recordsAt n table) (range 0 i)) (recordsAt n table i)
 
--- What the cuts from h on leave.
-pub record RecordsSoFar (n : ℕ) (table nodes₀ nodes : List ℤ) (row : List ℕ) (made h : ℕ) : Type 0 where
-  pub height : h ≤ n
-  pub counted : made ≡ recordsBelow n table (n - h)
-  pub below : NodesKnown n table h row
-  pub recorded : nodes ≡ overwritten nodes₀ 0 (numbersBelow n table (n - h))
+-- What the heights up to i leave.
+pub record RecordsSoFar (n : ℕ) (table nodes₀ nodes : List ℤ) (row : List ℕ) (made i : ℕ) : Type 0 where
+  pub height : i ≤ n
+  pub counted : made ≡ recordsBelow n table i
+  pub below : NodesKnown n table (n - i) row
+  pub recorded : nodes ≡ overwritten nodes₀ 0 (numbersBelow n table i)
 
 module _ {n : ℕ} {table : List ℤ} {classRow firstRow countRow : List ℕ} {nodes₀ : List ℤ} (b : BuildReady n table classRow firstRow countRow nodes₀) where
   -- A row of 8191 places has room for the cuts of 12 variables.
@@ -58,23 +60,21 @@ module _ {n : ℕ} {table : List ℤ} {classRow firstRow countRow : List ℕ} {n
   unfolding node
   no-nodes values = ap (λ i. node n table i values) (sub-self n)
 
-  pub records-start : (row : List ℕ) → length row ≡ 8191 → ((k : ℕ) → k < 8191 → getD row k 0 ≡ 0) → RecordsSoFar n table nodes₀ nodes₀ row 0 n
-  unfolding recordsBelow range flatMap
-  records-start row long zeros = record {
-    height = omega arith;
-    counted = ap (recordsBelow n table) (sym (sub-self n));
-    below = record {
-      places = row-room row long;
-      known = λ c l.
-          zeros (cutPlace n + c)
-          (let m = class-count-le n table n (omega arith) in
-          let p = place-inside n n c (omega arith) (omega arith) in
-          let q = row-room row long in
-          omega arith)
-          ∙ sym (no-nodes (classAt n table n c));
-    };
-    recorded = sym (ap (λ k. overwritten nodes₀ 0 (numbersBelow n table k)) (sub-self n) ∙ overwritten-none nodes₀ 0);
+  single-values : (row : List ℕ) → length row ≡ 8191 → ((k : ℕ) → k < 8191 → getD row k 0 ≡ 0) → NodesKnown n table n row
+  single-values row long zeros = record {
+    places = row-room row long;
+    known = λ c l.
+        zeros (cutPlace n + c)
+        (let m = class-count-le n table n (omega arith) in
+        let p = place-inside n n c (omega arith) (omega arith) in
+        let q = row-room row long in
+        omega arith)
+        ∙ sym (no-nodes (classAt n table n c));
   }
+
+  pub records-start : (row : List ℕ) → length row ≡ 8191 → ((k : ℕ) → k < 8191 → getD row k 0 ≡ 0) → RecordsSoFar n table nodes₀ nodes₀ row 0 0
+  unfolding recordsBelow range flatMap
+  records-start row long zeros = record { height = omega arith; counted = refl; below = rw (sub-zero n) (single-values row long zeros); recorded = sym (overwritten-none nodes₀ 0) }
 
   -- The numbers lie within the buffer.
   inside : (i : ℕ) → i ≤ n → 0 + length (numbersBelow n table i) ≤ length nodes₀
@@ -87,52 +87,58 @@ module _ {n : ℕ} {table : List ℤ} {classRow firstRow countRow : List ℕ} {n
       let d = b .room in
       omega arith
 
-  module _ {nodes : List ℤ} {row : List ℕ} {made h : ℕ} (s : RecordsSoFar n table nodes₀ nodes row made h) where
-    pub buffer-kept : length nodes ≡ length nodes₀
-    buffer-kept = ap length (s .recorded) ∙ length-overwritten nodes₀ 0 (numbersBelow n table (n - h)) (inside (n - h) (omega arith))
+  -- Every cut has its count.
+  pub cuts-counted : n < length countRow
+  cuts-counted = rw (b .counts, length-counts n table) (omega arith)
 
-    -- The next cut up.
-    module _ (some : 0 < h) where
-      up : suc (h - 1) ≡ h
+  module _ {nodes : List ℤ} {row : List ℕ} {made i : ℕ} (s : RecordsSoFar n table nodes₀ nodes row made i) where
+    pub buffer-kept : length nodes ≡ length nodes₀
+    buffer-kept = ap length (s .recorded) ∙ length-overwritten nodes₀ 0 (numbersBelow n table i) (inside i (s .height))
+
+    -- The next cut up, whose blocks' halves have height i.
+    module _ (some : i < n) where
+      up : suc (n - 1 - i) ≡ n - i
       up = omega arith
 
-      pub count-inside : h - 1 < length countRow
-      count-inside = rw (b .counts, length-counts n table) (let l = s .height in omega arith)
+      half : n - suc (n - 1 - i) ≡ i
+      half = omega arith
 
-      pub cut-ready : CutReady n (h - 1) (getD countRow (h - 1) 0) made table classRow firstRow row nodes
+      pub cut-ready : CutReady n (n - 1 - i) (getD countRow (n - 1 - i) 0) made table classRow firstRow row nodes
       cut-ready = record {
         accepted = b .accepted;
-        cut = let l = s .height in omega arith;
-        classes = rw (b .counts) (count-at n table (h - 1) (let l = s .height in omega arith));
+        cut = omega arith;
+        classes = rw (b .counts) (count-at n table (n - 1 - i) (omega arith));
         numbered = b .numbered;
         placed = b .placed;
         below = rw up (s .below);
-        counted = rw up (s .counted);
+        counted = rw half (s .counted);
         room = rw buffer-kept (b .room);
       }
 
-      pub records-next : {made′ : ℕ} {row′ : List ℕ} {nodes′ : List ℤ} → CutRecorded n (h - 1) made table row nodes made′ row′ nodes′ → RecordsSoFar n table nodes₀ nodes′ row′ made′ (h - 1)
+      pub records-next : {made′ : ℕ} {row′ : List ℕ} {nodes′ : List ℤ} → CutRecorded n (n - 1 - i) made table row nodes made′ row′ nodes′ → RecordsSoFar n table nodes₀ nodes′ row′ made′ (i + 1)
       records-next d = record {
-        height = let l = s .height in omega arith;
-        counted = d .counted;
-        below = cut-known (let l = s .height in omega arith) (s .below .places) d;
+        height = omega arith;
+        counted = d .counted ∙ ap (recordsBelow n table) (let e : n - (n - 1 - i) ≡ i + 1 = omega arith in e);
+        below = rw (let e : n - (i + 1) ≡ n - 1 - i = omega arith in e) (cut-known (omega arith) (s .below .places) d);
         recorded =
             d .recorded
-            ∙ ap₂ (λ x k. overwritten x k (flatMap recordNumbers (recordsAt n table (n - suc (h - 1))))) (s .recorded) at-end
-            ∙ overwritten-more nodes₀ 0 (numbersBelow n table (n - h)) (inside (n - h) (omega arith)) (flatMap recordNumbers (recordsAt n table (n - suc (h - 1))))
+            ∙ ap₂ (λ x k. overwritten x k (flatMap recordNumbers (recordsAt n table (n - suc (n - 1 - i))))) (s .recorded) at-end
+            ∙ overwritten-more nodes₀ 0 (numbersBelow n table i) (inside i (s .height)) (flatMap recordNumbers (recordsAt n table (n - suc (n - 1 - i))))
             ∙ ap (overwritten nodes₀ 0)
-            (ap (λ i. numbersBelow n table (n - h) ++ flatMap recordNumbers (recordsAt n table i)) (let e : n - suc (h - 1) ≡ n - h = omega arith in e)
-            ∙ sym (numbers-below-suc n table (n - h))
-            ∙ ap (numbersBelow n table) (let e : suc (n - h) ≡ n - (h - 1) = (let l = s .height in omega arith) in e));
+            (ap (λ k. numbersBelow n table i ++ flatMap recordNumbers (recordsAt n table k)) half
+            ∙ sym (numbers-below-suc n table i)
+            ∙ ap (numbersBelow n table) (sym (add-one i)));
       }
         where
-          at-end : recordSize * made ≡ 0 + length (numbersBelow n table (n - h))
-          at-end = ap (λ m. recordSize * m) (s .counted) ∙ sym (zero-add (length (numbersBelow n table (n - h))) ∙ numbers-below-length n table (n - h))
+          at-end : recordSize * made ≡ 0 + length (numbersBelow n table i)
+          at-end = ap (λ m. recordSize * m) (s .counted) ∙ sym (zero-add (length (numbersBelow n table i)) ∙ numbers-below-length n table i)
 
-    -- All cuts.
-    pub records-done : h ≡ 0 → AllRecorded n table nodes₀ made nodes
+    -- All heights.
+    pub records-done : n ≤ i → AllRecorded n table nodes₀ made nodes
     unfolding records
-    records-done e = record {
-      counted = s .counted ∙ ap (recordsBelow n table) (ap (λ k. n - k) e ∙ sub-zero n) ∙ sym (records-count n table);
-      recorded = s .recorded ∙ ap (λ k. overwritten nodes₀ 0 (numbersBelow n table k)) (ap (λ k. n - k) e ∙ sub-zero n);
-    }
+    records-done l =
+        let e : i ≡ n = (let h = s .height in omega arith) in
+        record {
+          counted = s .counted ∙ ap (recordsBelow n table) e ∙ sym (records-count n table);
+          recorded = s .recorded ∙ ap (λ k. overwritten nodes₀ 0 (numbersBelow n table k)) e;
+        }

@@ -30,14 +30,15 @@ use Rattle.blocks.specs.Laws.Classes.{class-below, class-stands, same-class, cl
 use Rattle.blocks.specs.Laws.Differences.{differences-again}
 use Rattle.blocks.specs.Laws.Same.{same-true, equal-same}
 use Rattle.diagram.specs.Records.{branches, node}
-use Rattle.diagram.specs.Building.{classAt, forkOf, NodesKnown, Forking}
+use Rattle.blocks.specs.Classes.{classAt}
+use Rattle.diagram.specs.Building.{forkOf, NodesKnown, Forking}
 use Rattle.diagram.specs.Accepted.{Accepted}
 use Rattle.diagram.specs.declared.Fork.{Fork}
 use Rattle.diagram.specs.Laws.Alike.{BlockLike, lower-of-block, upper-of-block, whole-length, like-lower, like-upper}
 use Rattle.diagram.specs.Laws.Checks.{variables-range, weight-mag}
 use Rattle.diagram.specs.Laws.Nodes.{node-differences, same-node, node-below}
 use Rattle.diagram.specs.Laws.Numbering.{weight-of-differences, records-count, records-room, below-more}
-use Rattle.diagram.specs.Laws.Places.{place-inside, length-numbers, length-firsts, class-at, first-block}
+use Rattle.blocks.specs.Laws.Places.{place-inside, length-numbers, length-firsts, class-at, first-block}
 use Rattle.diagram.specs.Laws.Shifts.{same-branches, same-lower, same-upper}
 
 -- ---- the weight of a block

@@ -1,8 +1,8 @@
 -- `image::after_cell` meets its contract. Assumes nothing.
-use Prim.Native.Nat.{ℕ, _+_, _*_, _%_, _^_, _≤_, _<_}
+use Prim.Native.Nat.{_<_}
 use native.Mathlib.Omega.{arith}
 use mir.Facts.{fits-of-lt}
-use Rattle.numbers.specs.Ranges.{mostVariables, widestAddress}
+use Rattle.numbers.specs.Ranges.{mostVariables}
 use Rattle.numbers.specs.Laws.Pieces.{shifted-one}
 use Rattle.image.specs.Bounds.{CellFits, mostBits}
 use Rattle.image.specs.Kinds.{widthOf}
@@ -11,8 +11,6 @@ use Rattle.image.specs.WellFormed.{KeepsShape}
 use Rattle.image.specs.Laws.Bounds.{cell-bits-most, cell-fits, words-most}
 use Rattle.image.specs.Laws.Rules.{shape-facts}
 use borrow.Author.Needs.{needs}
-use Prim.Native.Nat.{ℕ, _+_, _*_, _^_, _≤_, _<_}
-use mathlib.Core.Path.{_≡_, refl, sym, _∙_, ap, ap₂}
 use Rattle.image.proofs.after_cell.Statement.{statement}
 use Rattle.image.proofs.after_cell.Tie as tie
 

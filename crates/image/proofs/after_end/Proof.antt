@@ -1,6 +1,5 @@
 -- `image::after_end` meets its contract. Assumes nothing.
 use borrow.Author.Needs.{needs}
-use mathlib.Core.Path.{refl}
 use mir.Facts.{toZ-ofZ}
 use Rattle.image.specs.Reader.{placeAfter}
 use Rattle.image.proofs.after_end.Statement.{statement}

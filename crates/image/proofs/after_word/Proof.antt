@@ -1,13 +1,11 @@
 -- `image::after_word` meets its contract. Assumes nothing.
-use lib.IntN.{ℤ}
 use mir.Syntax.{w32}
 use mir.Val.{ofZ, toZ}
 use borrow.Author.Needs.{needs}
 use Rattle.numbers.specs.Ranges.{lesser, greater}
 use Rattle.image.specs.Laws.Due.{words-due}
 use Rattle.image.specs.Kinds.{kindOf}
-use Prim.Native.Nat.{ℕ}
-use mathlib.Core.Path.{_≡_, refl, sym, _∙_, ap₂}
+use mathlib.Core.Path.{_≡_, _∙_, ap₂}
 use mir.Facts.{toZ-ofZ}
 use Rattle.image.specs.Reader.{placeAfter}
 use Rattle.image.proofs.after_word.Statement.{statement}

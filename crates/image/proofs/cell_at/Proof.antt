@@ -1,6 +1,4 @@
 -- `image::cell_at` meets its contract, operand by operand. Assumes nothing.
-use Prim.Native.Nat.{_<_}
-use mathlib.Core.Path.{_≡_}
 use Rattle.image.specs.Kinds.{widthOf}
 use Rattle.image.specs.Reader.{commandAt}
 use borrow.Author.Needs.{needs}

@@ -1,16 +1,13 @@
 -- `image::cell_bits` meets its contract. Assumes nothing.
-use Prim.Native.Nat.{ℕ, _+_, _*_, _%_, _^_, _≤_, _<_}
+use Prim.Native.Nat.{_+_, _*_, _%_, _^_, _<_}
 use Rattle.image.specs.Bounds.{mostBits}
 use borrow.Author.Needs.{needs}
-use mathlib.Core.Path.{_≡_, refl, sym, _∙_, ap, ap₂}
+use mathlib.Core.Path.{_≡_, _∙_, ap, ap₂}
 use native.Mathlib.Omega.{arith}
-use mir.Syntax.{w64}
-use mir.Val.{Fits}
 use mir.Facts.{fits-of-lt}
 use Rattle.numbers.specs.Ranges.{widestAddress}
-use Rattle.numbers.specs.Widths.{railWidth, cellBits}
+use Rattle.numbers.specs.Widths.{cellBits}
 use Rattle.numbers.specs.Laws.Pieces.{shifted-one}
-use Rattle.image.specs.Bounds.{CellFits}
 use Rattle.image.specs.Reader.{mostClasses}
 use Rattle.image.specs.Laws.Bounds.{rail-narrow, cell-bits-most}
 use Rattle.image.proofs.cell_bits.Statement.{statement}

@@ -1,6 +1,6 @@
 -- `image::cell_keeps` meets its contract. Assumes nothing.
-use Prim.Native.Nat.{ℕ, _+_, _≤_, _<_}
-use mathlib.Core.Path.{_≡_, refl, sym, _∙_, ap}
+use Prim.Native.Nat.{_+_}
+use mathlib.Core.Path.{sym, _∙_, ap}
 use mathlib.Core.Bool.{and-false}
 use mathlib.Core.Logic.{⊎-elim}
 use native.Mathlib.Omega.{arith}
@@ -8,9 +8,7 @@ use lib.Dec.{leb}
 use mir.Facts.{fits-of-lt}
 use borrow.Author.Tests.{lt-leb, ne-eqb, le-ltb}
 use Rattle.numbers.specs.Ranges.{mostVariables, widestAddress}
-use Rattle.numbers.specs.Widths.{railWidth}
 use Rattle.numbers.specs.Laws.Widths.{rail-width-least}
-use Rattle.numbers.specs.Laws.Powers.{below-power}
 use Rattle.image.specs.Reader.{keepsRules, mostClasses}
 use Rattle.image.specs.Laws.Rules.{shape-decides}
 use borrow.Author.Needs.{needs}

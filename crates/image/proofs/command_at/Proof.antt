@@ -1,8 +1,7 @@
 -- `image::command_at` meets its contract, kind by kind. Assumes nothing.
-use mathlib.Core.Path.{_≡_, sym, _∙_, ap, ap₂}
+use mathlib.Core.Path.{_∙_, ap, ap₂}
 use native.Mathlib.Omega.{arith}
 use mir.Facts.{toZ-ofZ}
-use lib.ListN.{length}
 use Rattle.image.specs.Kinds.{dueOf, widthOf}
 use Rattle.image.specs.Reader.{dueSize, commandAt}
 use Rattle.image.specs.declared.Command.the-variants.{Table, Word, End}

@@ -1,8 +1,8 @@
 -- `image::evaluate` meets its contract. The loop's invariant: the cells left lead to the card's answer. Assumes nothing.
-use Prim.Native.Nat.{ℕ, _≤_, _<_}
-use mathlib.Core.Path.{_≡_, refl, sym, _∙_, ap, subst}
+use Prim.Native.Nat.{_<_}
+use mathlib.Core.Path.{sym, subst}
 use native.Mathlib.Omega.{arith}
-use Rattle.image.specs.Evaluation.{cardRead, cellRead}
+use Rattle.image.specs.Evaluation.{cardRead}
 use Rattle.image.specs.Run.{runCard}
 use Rattle.image.specs.Laws.Evaluating.{Evaluating, first-room, first-evaluating, cell-ahead, cell-passed, cell-takes, evaluated}
 use Rattle.image.proofs.evaluate.Statement.{statement}

@@ -1,5 +1,4 @@
 -- `image::first_walk` meets its contract. Assumes nothing.
-use mathlib.Core.Path.{_≡_, refl, _∙_}
 use mir.Facts.{toZ-ofZ}
 use mir.Syntax.{w32}
 use Rattle.image.specs.Evaluation.{firstWalk}

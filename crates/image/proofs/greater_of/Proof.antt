@@ -1,5 +1,4 @@
 -- `image::greater_of` meets its contract. Assumes nothing.
-use mathlib.Core.Path.{_≡_, refl, sym, _∙_}
 use mir.Facts.{toZ-ofZ}
 use Rattle.numbers.specs.Ranges.{greater}
 use Rattle.image.proofs.greater_of.Statement.{statement}

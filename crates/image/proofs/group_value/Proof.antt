@@ -1,6 +1,5 @@
 -- `image::group_value` meets its contract. Assumes nothing.
-use Prim.Native.Nat.{ℕ, _-_, _/_, _%_, _^_, _<_}
-use mathlib.Core.Path.{_≡_, ap₂}
+use Prim.Native.Nat.{_-_}
 use native.Mathlib.Omega.{arith}
 use lib.Pow.{pow-pos}
 use Rattle.numbers.specs.Laws.Pieces.{shifted-one}

@@ -1,5 +1,5 @@
 -- `image::is_end` meets its contract, command by command. Assumes nothing.
-use mathlib.Core.Path.{_≡_, sym, ap}
+use mathlib.Core.Path.{sym, ap}
 use Rattle.image.specs.Kinds.{isEnd}
 use borrow.Author.Needs.{needs}
 use Rattle.image.proofs.is_end.Statement.{statement}

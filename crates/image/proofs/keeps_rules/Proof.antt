@@ -3,8 +3,7 @@ use mathlib.Core.Bool.{_&&_}
 use Rattle.numbers.specs.Ranges.{isVariables, isValue}
 use Rattle.image.specs.declared.Command.the-variants.{Word}
 use borrow.Author.Needs.{needs}
-use mathlib.Core.Path.{_≡_, sym, _∙_, ap, ap₂}
-use lib.Dec.{eqb}
+use mathlib.Core.Path.{sym, _∙_, ap}
 use mir.Facts.{toZ-ofZ}
 use Rattle.image.specs.Reader.{keepsRules}
 use Rattle.image.proofs.keeps_rules.Statement.{statement}

@@ -1,5 +1,4 @@
 -- `image::lesser_of` meets its contract. Assumes nothing.
-use mathlib.Core.Path.{_≡_, refl, sym, _∙_}
 use mir.Facts.{toZ-ofZ}
 use Rattle.numbers.specs.Ranges.{lesser}
 use Rattle.image.proofs.lesser_of.Statement.{statement}

@@ -1,5 +1,5 @@
 -- `image::place_after` meets its contract, command by command. Assumes nothing.
-use mathlib.Core.Path.{_≡_, sym, _∙_, ap, subst}
+use mathlib.Core.Path.{sym, _∙_, ap, subst}
 use mir.Facts.{toZ-ofZ}
 use Rattle.image.specs.Bounds.{Follows}
 use Rattle.image.specs.Reader.{placeAfter}

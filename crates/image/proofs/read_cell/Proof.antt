@@ -1,21 +1,17 @@
 -- `image::read_cell` meets its contract. Assumes nothing.
-use lib.IntN.{ℤ, pos}
-use lib.Signed.{mag}
 use borrow.Author.Needs.{needs}
-use Prim.Native.Nat.{ℕ, _+_, _-_, _*_, _%_, _^_, _≤_, _<_}
-use mathlib.Core.Path.{_≡_, refl, sym, _∙_, ap, ap₂}
+use Prim.Native.Nat.{_+_, _*_, _%_, _^_, _≤_}
+use mathlib.Core.Path.{_≡_, _∙_, ap, ap₂}
 use native.Mathlib.Omega.{arith}
 use lib.ListN.{length}
-use mir.Facts.{fits-of-lt}
+use mir.Facts.{fits-of-lt, toZ-ofZ}
 use Rattle.numbers.specs.Ranges.{mostVariables}
-use Rattle.numbers.specs.Laws.Pieces.{shifted-one}
-use Rattle.image.specs.Run.{groupValue}
 use lib.IntN.{_+ℤ_}
 use mir.Syntax.{w32}
 use mir.Val.{toZ, ofZ}
-use mir.Facts.{toZ-ofZ}
 use Rattle.image.specs.Bytes.{unsignedAt, signedAt}
 use Rattle.image.specs.Evaluation.{groupAhead, wordPlace, nextPlace, cellRead}
+use Rattle.image.specs.Laws.Evaluating.{command-room, group-narrow, group-size}
 use Rattle.image.proofs.read_cell.Statement.{statement}
 use Rattle.image.proofs.read_cell.Tie as tie
 
@@ -23,16 +19,11 @@ is-group : (c : tie.After-read-one) → c .read-one .result ≡ groupAhead (c .b
 unfolding groupAhead
 is-group c = c .read-one .ensures .read
 
-narrow : (c : tie.After-read-one) → c .read-one .result < 64
-unfolding mostVariables
-narrow c = let e = is-group c in let w = c .before .before .pre .within in let f = c .before .before .pre .few in omega arith
-
 size : (c : tie.After-read-one) → (1 * 2 ^ c .read-one .result) % 18446744073709551616 ≡ 2 ^ groupAhead (c .before .before .args .image .now) (c .before .before .args .walk)
-size c = shifted-one (c .read-one .result) (narrow c) ∙ ap (λ g. 2 ^ g) (is-group c)
+size c = let s = c .before .before in group-size (s .args .image .now) (s .args .x) (s .args .walk) (s .pre) (c .read-one .result) (is-group c)
 
 room : (s : tie.Start) → s .args .walk .at + 7 ≤ length (s .args .image .now)
-unfolding nextPlace
-room s = let n = s .pre .next in omega arith
+room s = command-room (s .args .image .now) (s .args .x) (s .args .walk) (s .pre)
 
 -- The next cell begins within the image.
 inside : (c : tie.After-read-two)
@@ -80,7 +71,7 @@ add-t10 : tie.Need-add-t10
 add-t10 c = fits-of-lt (let r = room (c .before .before .before .before .before .before) in let g = c .before .before .before .before .before .before .good .0 .1 in omega arith)
 
 shl-t11 : tie.Need-shl-t11
-shl-t11 c = narrow (c .before .before .before .before)
+shl-t11 c = let d = c .before .before .before .before in let s = d .before .before in group-narrow (s .args .image .now) (s .args .x) (s .args .walk) (s .pre) (d .read-one .result) (is-group d)
 
 mul-t12 : tie.Need-mul-t12
 mul-t12 c = rw (size (c .before .before .before .before)) (fits-of-lt (let h = inside (c .before .before .before) in let g = c .before .before .before .before .before .before .good .0 .1 in omega arith))

@@ -1,6 +1,6 @@
 -- `image::read_four` meets its contract. Assumes nothing.
 use Prim.Native.Nat.{_+_, _*_}
-use mathlib.Core.Path.{_≡_, sym, _∙_, ap₂}
+use mathlib.Core.Path.{sym, _∙_, ap₂}
 use native.Mathlib.Omega.{arith}
 use Rattle.image.specs.Laws.Operands.{unsigned-four}
 use borrow.Author.Needs.{needs}

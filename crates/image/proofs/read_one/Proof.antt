@@ -1,5 +1,5 @@
 -- `image::read_one` meets its contract. Assumes nothing.
-use mathlib.Core.Path.{_≡_, sym, _∙_}
+use mathlib.Core.Path.{sym, _∙_}
 use native.Mathlib.Omega.{arith}
 use Rattle.image.specs.Laws.Operands.{unsigned-one}
 use Rattle.image.proofs.read_one.Statement.{statement}

@@ -1,12 +1,12 @@
 -- `image::read_step` meets its contract, check by check. Assumes nothing.
 use borrow.Author.Needs.{needs}
-use Prim.Native.Nat.{ℕ, _+_, _-_, _≤_, _<_}
-use mathlib.Core.Path.{_≡_, refl, sym, _∙_, ap, subst}
-use mathlib.Core.Bool.{true, false}
+use Prim.Native.Nat.{_+_, _≤_}
+use mathlib.Core.Path.{_≡_, sym, _∙_, ap, subst}
+use mathlib.Core.Bool.{true}
 use native.Mathlib.Omega.{arith}
 use lib.ListN.{length, getD}
 use borrow.Author.Tests.{not-true, not-false}
-use Rattle.image.specs.Kinds.{dueOf, kindOf}
+use Rattle.image.specs.Kinds.{kindOf}
 use Rattle.image.specs.Reader.{due, dueByte, dueSize, commandAt, widthIsLeast, judged, stepped}
 use Rattle.image.specs.Laws.Steps.{step-wide, step-none, step-other, step-cut, step-judged, command-kind}
 use Rattle.image.proofs.read_step.Statement.{statement}

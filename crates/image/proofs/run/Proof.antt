@@ -1,5 +1,5 @@
 -- `image::run` meets its contract. Assumes nothing.
-use mathlib.Core.Path.{_≡_, sym, _∙_, ap}
+use mathlib.Core.Path.{sym, _∙_, ap}
 use Rattle.image.specs.Kinds.{checked}
 use Rattle.image.specs.Run.{ran}
 use Rattle.image.specs.Laws.Reading.{done}

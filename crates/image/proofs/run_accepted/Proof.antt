@@ -1,34 +1,25 @@
 -- `image::run_accepted` meets its contract. Assumes nothing.
-use Prim.Native.Nat.{ℕ, _*_, _%_, _^_, _≤_, _<_}
+use Prim.Native.Nat.{_*_, _%_, _^_}
 use mir.Syntax.{w32}
-use mir.Val.{toZ, ofZ}
 use mir.Facts.{toZ-ofZ}
 use Rattle.numbers.specs.Answers.{accepted}
-use Rattle.numbers.specs.Ranges.{mostVariables}
-use Rattle.numbers.specs.Laws.Pieces.{shifted-one}
 use Rattle.image.specs.Evaluation.{cardRead, resultOf}
-use Rattle.image.specs.Run.{Result, ran, runCard}
-use Rattle.image.specs.Laws.Evaluating.{variables-few}
+use Rattle.image.specs.Run.{ran}
+use Rattle.image.specs.Laws.Evaluating.{variables-narrow, variables-size}
 use Rattle.image.specs.Laws.Running.{run-late, run-value}
 use borrow.Author.Needs.{needs}
-use mathlib.Core.Path.{_≡_, refl, sym, _∙_, ap}
-use native.Mathlib.Omega.{arith}
-use Rattle.image.specs.Run.{ran}
+use mathlib.Core.Path.{_≡_, sym, _∙_, ap}
 use Rattle.image.proofs.run_accepted.Statement.{statement}
 use Rattle.image.proofs.run_accepted.Tie as tie
 
-narrow : (c : tie.After-variables) → c .variables .result < 64
-unfolding mostVariables
-narrow c = let e = c .variables .ensures in let f = variables-few (c .before .before .args .image .now) (c .before .before .pre) in omega arith
-
 size : (c : tie.After-variables) → (1 * 2 ^ c .variables .result) % 18446744073709551616 ≡ 2 ^ cardRead (c .before .before .args .image .now) .n
-size c = shifted-one (c .variables .result) (narrow c) ∙ ap (λ n. 2 ^ n) (c .variables .ensures)
+size c = variables-size (c .before .before .args .image .now) (c .before .before .pre) (c .variables .result) (c .variables .ensures)
 
 variables-requires : tie.Need-variables-requires
 variables-requires c κs = search needs
 
 shl-if1 : tie.Need-shl-if1
-shl-if1 c = narrow c
+shl-if1 c = variables-narrow (c .before .before .args .image .now) (c .before .before .pre) (c .variables .result) (c .variables .ensures)
 
 returns : tie.Need-returns
 unfolding ran

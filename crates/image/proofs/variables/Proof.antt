@@ -1,5 +1,5 @@
 -- `image::variables` meets its contract. Assumes nothing.
-use mathlib.Core.Path.{_≡_, _∙_}
+use mathlib.Core.Path.{_∙_}
 use native.Mathlib.Omega.{arith}
 use Rattle.image.specs.Laws.Evaluating.{first-room, variables-read}
 use Rattle.image.proofs.variables.Statement.{statement}

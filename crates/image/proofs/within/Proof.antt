@@ -1,5 +1,4 @@
 -- `image::within` meets its contract. Assumes nothing.
-use mathlib.Core.Path.{_≡_, refl, sym, _∙_, ap₂}
 use mir.Facts.{toZ-ofZ}
 use Rattle.numbers.specs.Ranges.{within}
 use Rattle.image.proofs.within.Statement.{statement}

@@ -1,13 +1,13 @@
 -- `image::word_place` meets its contract. Assumes nothing.
-use Prim.Native.Nat.{ℕ, _+_, _-_, _*_, _%_, _^_, _≤_, _<_}
-use mathlib.Core.Path.{_≡_, refl, sym, _∙_, ap, ap₂}
+use Prim.Native.Nat.{_+_, _*_, _%_, _^_, _≤_}
+use mathlib.Core.Path.{_≡_, _∙_, ap}
 use native.Mathlib.Omega.{arith}
 use lib.ListN.{length}
 use mir.Facts.{fits-of-lt}
 use Rattle.numbers.specs.Ranges.{mostVariables}
-use Rattle.numbers.specs.Laws.Pieces.{shifted-one}
 use Rattle.image.specs.Run.{groupValue}
-use Rattle.image.specs.Evaluation.{groupAhead, wordPlace, nextPlace}
+use Rattle.image.specs.Evaluation.{groupAhead, wordPlace}
+use Rattle.image.specs.Laws.Evaluating.{command-room, group-narrow, group-size}
 use Rattle.image.proofs.word_place.Statement.{statement}
 use Rattle.image.proofs.word_place.Tie as tie
 
@@ -15,16 +15,11 @@ is-group : (c : tie.After-read-one) → c .read-one .result ≡ groupAhead (c .b
 unfolding groupAhead
 is-group c = c .read-one .ensures .read
 
-narrow : (c : tie.After-read-one) → c .read-one .result < 64
-unfolding mostVariables
-narrow c = let e = is-group c in let w = c .before .before .pre .within in let f = c .before .before .pre .few in omega arith
-
 size : (c : tie.After-read-one) → (1 * 2 ^ c .read-one .result) % 18446744073709551616 ≡ 2 ^ groupAhead (c .before .before .args .image .now) (c .before .before .args .walk)
-size c = shifted-one (c .read-one .result) (narrow c) ∙ ap (λ g. 2 ^ g) (is-group c)
+size c = let s = c .before .before in group-size (s .args .image .now) (s .args .x) (s .args .walk) (s .pre) (c .read-one .result) (is-group c)
 
 room : (s : tie.Start) → s .args .walk .at + 7 ≤ length (s .args .image .now)
-unfolding nextPlace
-room s = let n = s .pre .next in omega arith
+room s = command-room (s .args .image .now) (s .args .x) (s .args .walk) (s .pre)
 
 value : (c : tie.After-group-value) → c .group-value .result ≡ groupValue (c .before .before .before .args .walk .left) (groupAhead (c .before .before .before .args .image .now) (c .before .before .before .args .walk)) (c .before .before .before .args .x)
 value c = c .group-value .ensures ∙ ap (λ g. groupValue (c .before .before .before .args .walk .left) g (c .before .before .before .args .x)) (is-group (c .before))
@@ -50,7 +45,7 @@ add-result : tie.Need-add-result
 add-result c = fits-of-lt (let r = room (c .before .before .before) in let g = c .before .before .before .good .0 .1 in omega arith)
 
 shl-result : tie.Need-shl-result
-shl-result c = narrow (c .before)
+shl-result c = let d = c .before in let s = d .before .before in group-narrow (s .args .image .now) (s .args .x) (s .args .walk) (s .pre) (d .read-one .result) (is-group d)
 
 mul-result : tie.Need-mul-result
 mul-result c = rw (size (c .before .before)) (fits-of-lt (let h = inside c in let g = c .before .before .before .before .good .0 .1 in omega arith))

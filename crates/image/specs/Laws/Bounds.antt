@@ -1,7 +1,7 @@
 -- The bounds that every place keeps: the first place has them, and a command that keeps its rules hands them on.
-use Prim.Native.Nat.{ℕ, zero, suc, _+_, _-_, _*_, _^_, _≤_, _<_}
-use mathlib.Core.Path.{_≡_, refl, sym, _∙_, ap}
-use mathlib.Core.Bool.{true, _&&_}
+use Prim.Native.Nat.{ℕ, _+_, _*_, _^_, _≤_, _<_}
+use mathlib.Core.Path.{_≡_}
+use mathlib.Core.Bool.{true}
 use native.Mathlib.Nat.{le-trans, mul-le-mul, mul-le-mul-right}
 use native.Mathlib.Omega.{arith}
 use lib.Dec.{leb}
@@ -14,7 +14,6 @@ use Rattle.numbers.specs.Laws.Widths.{rail-width-tells, rail-width-least}
 use Rattle.image.specs.Bounds.{mostBits, WithinBounds, CellFits}
 use Rattle.image.specs.Kinds.{widthOf}
 use Rattle.image.specs.Reader.{keepsRules, mostClasses, placeAfter, start}
-use Rattle.image.specs.WellFormed.{KeepsShape}
 use Rattle.image.specs.Laws.Rules.{shape-facts}
 use Rattle.image.specs.declared.Command.{Command}
 use Rattle.image.specs.declared.Command.the-variants.{Table, Cell, Word, End}

@@ -1,8 +1,8 @@
 -- Bytes and the numbers they stand for, both ways.
-use Prim.Native.Nat.{ℕ, zero, suc, _+_, _-_, _*_, _/_, _%_, _^_, _≤_, _<_}
+use Prim.Native.Nat.{ℕ, zero, suc, _+_, _*_, _/_, _%_, _^_, _≤_, _<_}
 use mathlib.Core.Path.{_≡_, refl, sym, _∙_, ap, ap₂, subst}
 use mathlib.Core.List.{List, [], _∷_, _++_, append-assoc}
-use native.Mathlib.Nat.{add-zero, zero-add, mul-one, mul-assoc, add-mul, add-assoc, mul-comm, one-le-pow, pow-suc, pow-succ', div-add-mod', mul-add-div-right, mul-add-mod-self-right, mod-eq-of-lt, div-eq-of-lt, mod-lt, div-lt-iff-lt-mul, mul-le-mul-right, mod-one, suc-mul, le-trans, min-le-left}
+use native.Mathlib.Nat.{add-zero, mul-assoc, add-mul, add-assoc, one-le-pow, pow-succ', div-add-mod', mul-add-div-right, mul-add-mod-self-right, mod-eq-of-lt, div-eq-of-lt, mod-lt, mul-le-mul-right, mod-one, suc-mul, le-trans, min-le-left}
 use native.Mathlib.Numerals.{add-one}
 use native.Mathlib.Decide.{decLt}
 use native.Mathlib.Omega.{arith}
@@ -11,7 +11,7 @@ use lib.ListN.{length, getD, take, drop, take-append-drop, length-take, length-d
 use lib.Seq.{take-at, drop-at, drop-drop, getD-drop, getD-take, drop-cons, length-take-le}
 use lib.IntN.{ℤ}
 use mir.Syntax.{w32}
-use mir.Val.{Fits, SFits, ofZ, toZ}
+use mir.Val.{SFits, ofZ, toZ}
 use mir.Facts.{fits-ofZ, toZ-ofZ, ofZ-toZ, fits-of-lt}
 use Rattle.image.specs.Bounds.{AreBytes}
 use Rattle.image.specs.Bytes.{bigEndian, signedBytes, number, unsignedAt, signedAt}

@@ -1,12 +1,11 @@
 -- The commands that may stand from the start on are those of cards that keep the rules.
-use Prim.Native.Nat.{ℕ, zero, suc, _+_, _-_, _≤_, _<_}
-use mathlib.Core.Path.{_≡_, refl, sym, _∙_, ap, ap₂, subst}
-use mathlib.Core.Bool.{Bool, true, false, _&&_, false≢true}
+use Prim.Native.Nat.{ℕ}
+use mathlib.Core.Path.{_≡_, refl, sym, _∙_, ap, subst}
+use mathlib.Core.Bool.{true, false≢true}
 use mathlib.Core.List.{List, [], _∷_, _++_, map, flatMap, append-assoc, append-nil}
 use native.Mathlib.Nat.{zero-add}
 use native.Mathlib.Omega.{arith}
-use lib.Dec.{eqb}
-use lib.ListN.{length, getD}
+use lib.ListN.{length}
 use lib.IntN.{ℤ, pos}
 use borrow.Author.Tests.{eq-eqb}
 use Rattle.numbers.specs.Lists.{every}
@@ -17,7 +16,7 @@ use Rattle.numbers.specs.Laws.Widths.{weight-width-zero}
 use Rattle.image.specs.Kinds.{kindOf, isEnd}
 use Rattle.image.specs.Cells as cells
 use Rattle.image.specs.Cells.{Card, totalBits}
-use Rattle.image.specs.Commands.{wordCommand, cellCommands, cardCommands, Collected, collect, cardOf}
+use Rattle.image.specs.Commands.{wordCommand, cellCommands, cardCommands, collect, cardOf}
 use Rattle.image.specs.Reader as reader
 use Rattle.image.specs.Reader.{due, keepsRules, placeAfter, widthIsLeast, start}
 use Rattle.image.specs.WellFormed.{weights, KeepsCells, WellFormed}

@@ -1,25 +1,24 @@
 -- The commands that may come at a place are those of words and cells that keep the rules.
 use Prim.Native.Nat.{ℕ, zero, suc, _+_, _-_, _*_, _%_, _^_, _≤_, _<_}
-use mathlib.Core.Path.{_≡_, refl, sym, _∙_, ap, ap₂, subst}
-use mathlib.Core.Bool.{Bool, true, false, _||_, false≢true}
+use mathlib.Core.Path.{_≡_, refl, sym, _∙_, ap, subst}
+use mathlib.Core.Bool.{true, false, false≢true}
 use mathlib.Core.List.{List, [], _∷_, _++_, map, flatMap, append-assoc}
-use native.Mathlib.Nat.{add-assoc, add-zero, sub-zero, dvd-mul-left, dvd-sub-iff-right, dvd-iff-mod-eq-zero, le-of-lt}
+use native.Mathlib.Nat.{add-assoc, add-zero, sub-zero, dvd-mul-left, dvd-sub-iff-right, dvd-iff-mod-eq-zero}
 use native.Mathlib.Omega.{arith}
-use lib.Dec.{ltb, eqb}
+use lib.Dec.{eqb}
 use lib.ListN.{length, getD}
-use lib.IntN.{ℤ, pos}
 use borrow.Author.Tests.{eqb-true, eq-eqb, lt-ltb, le-ltb}
 use Rattle.numbers.specs.Lists.{sum}
 use Rattle.numbers.specs.Ranges.{lowest, highest}
-use Rattle.numbers.specs.Widths.{weightWidth, cellBits}
+use Rattle.numbers.specs.Widths.{weightWidth}
 use Rattle.numbers.specs.Laws.Extremes.{width-by-extremes}
 use Rattle.image.specs.Kinds.{kindOf, isEnd}
 use Rattle.image.specs.Cells as cells
 use Rattle.image.specs.Cells.{bitsOf, totalBits}
 use Rattle.image.specs.Commands.{wordCommand, cellCommands}
-use Rattle.image.specs.Reader.{due, keepsRules, placeAfter, widthIsLeast}
+use Rattle.image.specs.Reader.{keepsRules, placeAfter, widthIsLeast}
 use Rattle.image.specs.Reader as reader
-use Rattle.image.specs.WellFormed.{noWord, weights, KeepsShape, KeepsWord, KeepsCell, KeepsCells}
+use Rattle.image.specs.WellFormed.{noWord, weights, KeepsWord, KeepsCells}
 use Rattle.image.specs.Laws.Due.{Tells, told, due-word, due-cell, due-end}
 use Rattle.image.specs.Laws.Rules.{shape-test, shape-facts, word-test, word-facts}
 use Rattle.image.specs.Laws.Standing.{May, Allowed, last, more}

@@ -1,19 +1,18 @@
 -- Evaluation in place gives the card's answer: the words lie where the offsets say.
 use Prim.Native.Nat.{ℕ, zero, suc, _+_, _-_, _*_, _/_, _%_, _^_, _≤_, _<_}
 use mathlib.Core.Path.{_≡_, refl, sym, _∙_, ap, ap₂, subst}
-use mathlib.Core.Bool.{Bool, true, false}
 use mathlib.Core.List.{List, [], _∷_, _++_, map, flatMap, append-assoc}
-use native.Mathlib.Nat.{mod-lt, add-zero, mul-zero, le-trans}
+use native.Mathlib.Nat.{mod-lt, add-zero}
 use native.Mathlib.Numerals.{add-one}
 use native.Mathlib.Omega.{arith}
-use lib.Dec.{lit<, lit≤}
+use lib.Dec.{lit<}
 use lib.ListN.{length, getD}
 use lib.Pow.{pow-pos}
-use lib.IntN.{ℤ, pos, _+ℤ_}
+use lib.IntN.{ℤ, _+ℤ_}
 use lib.Signed.{mag}
-use Rattle.numbers.specs.Answers.{accepted}
 use Rattle.numbers.specs.Ranges.{mostVariables}
 use Rattle.numbers.specs.Laws.Machine.{mag-add}
+use Rattle.numbers.specs.Laws.Pieces.{shifted-one}
 use Rattle.numbers.specs.Laws.Powers.{part-room}
 use Rattle.image.specs.Kinds.{kindOf}
 use Rattle.image.specs.Bytes.{unsignedAt, signedAt}
@@ -21,9 +20,9 @@ use Rattle.image.specs.Cells as cells
 use Rattle.image.specs.Cells.{Card, totalBits}
 use Rattle.image.specs.Commands.{wordCommand, cellCommands, cardCommands, cardOf}
 use Rattle.image.specs.Evaluation.{Accepted, cardIn, cardRead, resultOf, firstWalk, groupAhead, wordPlace, nextPlace, cellRead, CellAhead}
-use Rattle.image.specs.Reader.{dueSize, commandAt, mostClasses, reading}
+use Rattle.image.specs.Reader.{dueSize, commandAt}
 use Rattle.image.specs.Run.{Result, wordAt, groupValue, runFrom, runCard}
-use Rattle.image.specs.WellFormed.{noWord, KeepsWord, KeepsCell, KeepsCells, WellFormed}
+use Rattle.image.specs.WellFormed.{noWord, KeepsCell, KeepsCells}
 use Rattle.image.specs.Laws.Bounds.{variables-most}
 use Rattle.image.specs.Laws.Held.{weight-small, value-small}
 use Rattle.image.specs.Laws.Images.{reading-standing, commands-of-card, card-keeps}
@@ -131,6 +130,19 @@ module _ (image : List ℕ) (x : ℕ) (w : Walk) (classes bits : ℕ) (cell : ce
   next-room : nextPlace image w ≤ length image
   next-room = let c = standing-count image (nextPlace image w) rest rest-stands in omega arith
 
+-- The code's numbers stay small: the next command, and the shift by the group.
+module _ (image : List ℕ) (x : ℕ) (w : Walk) (a : CellAhead image x w) where
+  pub command-room : w .at + 7 ≤ length image
+  unfolding nextPlace
+  command-room = let n = a .next in omega arith
+
+  pub group-narrow : (group : ℕ) → group ≡ groupAhead image w → group < 64
+  unfolding mostVariables
+  group-narrow group e = let t = a .within in let f = a .few in omega arith
+
+  pub group-size : (group : ℕ) → group ≡ groupAhead image w → (1 * 2 ^ group) % 18446744073709551616 ≡ 2 ^ groupAhead image w
+  group-size group e = shifted-one group (group-narrow group e) ∙ ap (λ g. 2 ^ g) e
+
 -- ---- one cell after another
 
 -- Where variables are left, a cell is.
@@ -230,8 +242,16 @@ module _ (image : List ℕ) (a : Accepted image) where
   pub variables-read : unsignedAt image 1 1 ≡ cardRead image .n
   variables-read = table-operands .0 ∙ ap (λ k. k .n) (sym is-card)
 
-  pub variables-few : cardRead image .n ≤ mostVariables
+  variables-few : cardRead image .n ≤ mostVariables
   variables-few = rw is-card (variables-most (card .n) (card-keeps image (a .commands) (a .read) .variables) .1)
+
+  pub variables-narrow : (n : ℕ) → n ≡ cardRead image .n → n < 64
+  unfolding mostVariables
+  variables-narrow n e = let f = variables-few in omega arith
+
+  -- The number of values, as a shift.
+  pub variables-size : (n : ℕ) → n ≡ cardRead image .n → (1 * 2 ^ n) % 18446744073709551616 ≡ 2 ^ cardRead image .n
+  variables-size n e = shifted-one n (variables-narrow n e) ∙ ap (λ n. 2 ^ n) e
 
   pub first-evaluating : (x : ℕ) → Evaluating image x (runCard (cardRead image) x) (firstWalk image)
   unfolding firstWalk runCard resultOf

@@ -1,17 +1,15 @@
 -- The numbers of a card that keeps the rules fit the bytes of its image.
-use Prim.Native.Nat.{ℕ, zero, suc, _+_, _-_, _*_, _^_, _≤_, _<_}
-use mathlib.Core.Path.{_≡_, refl, sym, _∙_, ap, ap₂, subst}
-use mathlib.Core.Bool.{Bool, true, false, _&&_}
-use mathlib.Core.List.{List, [], _∷_, _++_, map, flatMap, append-assoc}
+use Prim.Native.Nat.{ℕ, suc, _-_, _*_, _^_, _≤_, _<_}
+use mathlib.Core.Path.{_≡_, _∙_, ap}
+use mathlib.Core.Bool.{true}
+use mathlib.Core.List.{List, [], _∷_, _++_, map, flatMap}
 use native.Mathlib.Omega.{arith}
 use lib.Dec.{lit<}
 use lib.ListN.{length, getD, length-map}
 use lib.IntN.{ℤ, pos, negℤ}
 use lib.Signed.{mag, leZ}
-use mir.Syntax.{w32}
-use mir.Val.{SFits}
 use borrow.Author.Tests.{lt-ltb}
-use Rattle.numbers.specs.Lists.{sum, every}
+use Rattle.numbers.specs.Lists.{sum}
 use Rattle.numbers.specs.Ranges.{isValue, isWeight, within, mostVariables}
 use Rattle.numbers.specs.Widths.{holds, weightWidth}
 use Rattle.numbers.specs.Laws.Bools.{both}
@@ -23,11 +21,11 @@ use Rattle.image.specs.Cells as cells
 use Rattle.image.specs.Cells.{Card, bitsOf, totalBits}
 use Rattle.image.specs.Commands.{wordCommand, cellCommands, cardCommands}
 use Rattle.image.specs.Reader.{mostClasses}
-use Rattle.image.specs.WellFormed.{noWord, weights, KeepsWord, KeepsCell, KeepsCells, WellFormed}
+use Rattle.image.specs.WellFormed.{noWord, weights, KeepsCell, KeepsCells, WellFormed}
 use Rattle.image.specs.Laws.Bounds.{variables-most, cell-bits-most}
 use Rattle.image.specs.Laws.Images.{Holds, AllHold}
 use Rattle.image.specs.declared.Command.{Command}
-use Rattle.image.specs.declared.Command.the-variants.{Table, Cell, Word, End}
+use Rattle.image.specs.declared.Command.the-variants.{Cell, Word, End}
 
 -- ---- values and weights
 

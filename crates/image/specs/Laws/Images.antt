@@ -1,26 +1,22 @@
 -- Images and commands: an accepted image is its commands' bytes, and the bytes of a card that keeps the rules are accepted.
-use Prim.Native.Nat.{ℕ, zero, suc, _+_, _-_, _*_, _^_, _≤_, _<_}
-use mathlib.Core.Path.{_≡_, refl, sym, _∙_, ap, ap₂, subst}
-use mathlib.Core.Bool.{Bool, true, false}
-use mathlib.Core.List.{List, [], _∷_, _++_, map, flatMap, append-assoc}
-use native.Mathlib.Nat.{add-assoc}
+use Prim.Native.Nat.{ℕ, suc, _+_, _-_, _≤_, _<_}
+use mathlib.Core.Path.{_≡_, sym, _∙_, ap, ap₂}
+use mathlib.Core.List.{List, [], _∷_, _++_, flatMap, append-assoc}
 use native.Mathlib.Omega.{arith}
-use lib.ListN.{length, getD, take, drop, length-append, length-drop}
+use lib.ListN.{length, drop, length-append, length-drop}
 use lib.Seq.{drop-length}
-use lib.IntN.{ℤ}
 use mir.Syntax.{w32}
 use mir.Val.{SFits, ofZ}
-use Rattle.numbers.specs.Answers.{Answer, accepted}
+use Rattle.numbers.specs.Answers.{accepted}
 use Rattle.image.specs.Bounds.{AreBytes}
 use Rattle.image.specs.Kinds.{kindOf}
 use Rattle.image.specs.Bytes.{bigEndian, signedBytes}
-use Rattle.image.specs.Cells.{Card}
 use Rattle.image.specs.Commands.{commandBytes, cardCommands, imageOf, cardOf}
-use Rattle.image.specs.Reader.{dueByte, dueSize, commandAt, readFrom, reading, start}
+use Rattle.image.specs.Reader.{dueByte, dueSize, commandAt, reading, start}
 use Rattle.image.specs.WellFormed.{WellFormed}
 use Rattle.image.specs.Laws.Bytes.{length-bigEndian, byte-here, operand-here, signed-here, command-back}
-use Rattle.image.specs.Laws.Cards.{card-allowed, allowed-card}
-use Rattle.image.specs.Laws.Standing.{Allowed, Stands, Standing, reading-parts, reading-back, standing-count}
+use Rattle.image.specs.Laws.Cards.{allowed-card}
+use Rattle.image.specs.Laws.Standing.{Allowed, Stands, Standing, reading-parts}
 use Rattle.image.specs.declared.Command.{Command}
 use Rattle.image.specs.declared.Command.the-variants.{Table, Cell, Word, End}
 
@@ -49,6 +45,10 @@ module _ (image : List ℕ) (commands : List Command) (h : reading image ≡ acc
   -- Its commands are those of the card that they describe, which keeps the rules.
   pub commands-of-card : commands ≡ cardCommands (cardOf commands)
   commands-of-card = allowed-card commands reading-allowed .0
+
+  pub image-of-card : AreBytes image → image ≡ imageOf (cardOf commands)
+  unfolding imageOf
+  image-of-card bytes = image-of-commands bytes ∙ ap (flatMap commandBytes) commands-of-card
 
   pub card-keeps : WellFormed (cardOf commands)
   card-keeps = allowed-card commands reading-allowed .1

@@ -1,16 +1,16 @@
 -- Operands from their bytes: those of one, two and four bytes, and the sign.
-use Prim.Native.Nat.{ℕ, zero, suc, _+_, _-_, _*_, _^_, _≤_, _<_}
+use Prim.Native.Nat.{ℕ, zero, suc, _+_, _-_, _*_, _≤_, _<_}
 use mathlib.Core.Path.{_≡_, refl, sym, _∙_, ap, ap₂}
-use mathlib.Core.List.{List, [], _∷_}
+use mathlib.Core.List.{List, _∷_}
 use native.Mathlib.Numerals.{add-one, add-two}
 use native.Mathlib.Omega.{arith}
 use lib.ListN.{length, getD, take, drop}
 use lib.Seq.{drop-cons}
-use lib.IntN.{ℤ, pos, negsuc, _-ℤ_}
+use lib.IntN.{pos, negsuc, _-ℤ_}
 use mir.Syntax.{w32}
-use mir.Val.{SFits, toZ, ofZ}
-use mir.Facts.{toZ-pos, toZ-neg, toZ-ofZ}
-use Rattle.image.specs.Bytes.{number, unsignedAt, signedAt}
+use mir.Val.{SFits, toZ}
+use mir.Facts.{toZ-pos, toZ-neg}
+use Rattle.image.specs.Bytes.{number, unsignedAt}
 
 module _ (image : List ℕ) (at : ℕ) where
   byte-here : at < length image → drop at image ≡ getD image at 0 ∷ drop (at + 1) image

@@ -1,13 +1,12 @@
 -- Reading a whole image: a loop of steps gives what the definition says.
-use Prim.Native.Nat.{ℕ, zero, suc, _+_, _-_, _≤_, _<_}
+use Prim.Native.Nat.{ℕ, zero, suc, _+_, _≤_, _<_}
 use mathlib.Core.Path.{_≡_, refl, sym, _∙_, ap}
-use mathlib.Core.Bool.{Bool, true, false, false≢true, true≢false}
+use mathlib.Core.Bool.{true, false, false≢true}
 use mathlib.Core.List.{List, [], _∷_}
 use native.Mathlib.Omega.{arith}
 use lib.Dec.{lit<}
-use lib.ListN.{length, getD}
+use lib.ListN.{length}
 use Rattle.numbers.specs.Answers.{Answer, accepted, refused, mapAnswer, andThen}
-use Rattle.image.specs.Bytes.{unsignedAt}
 use Rattle.image.specs.Bounds.{AreBytes, WithinBounds}
 use Rattle.image.specs.Kinds.{widthOf, isEnd}
 use Rattle.image.specs.Reader.{Due, table, cell, word, end, due, dueSize, commandAt, placeAfter, step, followedBy, readFrom, start, reading}

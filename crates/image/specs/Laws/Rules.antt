@@ -1,22 +1,18 @@
 -- The operand rules, as a test and as facts.
-use Prim.Native.Nat.{ℕ, zero, suc, _+_, _-_, _*_, _%_, _^_, _≤_, _<_}
-use mathlib.Core.Path.{_≡_, refl, sym, _∙_, ap, ap₂}
-use mathlib.Core.Bool.{Bool, true, false, not, _&&_, _||_, false≢true, and-false, and-true}
-use mathlib.Core.List.{List}
-use native.Mathlib.Decide.{ℕ-discrete}
+use Prim.Native.Nat.{ℕ, _+_, _%_, _^_, _≤_, _<_}
+use mathlib.Core.Path.{_≡_, _∙_}
+use mathlib.Core.Bool.{true, false, not, _&&_, _||_, and-false, and-true}
 use native.Mathlib.Omega.{arith}
 use lib.Dec.{leb, ltb, eqb}
 use lib.IntN.{ℤ, pos}
-use borrow.Author.Tests.{leb-true, ltb-true, eqb-true, le-leb, lt-ltb, le-ltb, eq-eqb, ne-eqb, eqb-false, ltb-false}
-use Rattle.numbers.specs.Ranges.{isVariables, isValue, isWeight, eqZ, widestAddress, mostVariables}
+use borrow.Author.Tests.{leb-true, ltb-true, eqb-true, le-leb, lt-ltb, le-ltb, eq-eqb, ltb-false}
+use Rattle.numbers.specs.Ranges.{isWeight, eqZ, widestAddress}
 use Rattle.numbers.specs.Widths.{railWidth}
-use Rattle.numbers.specs.Laws.Bools.{yes-or-no, both, and-both}
+use Rattle.numbers.specs.Laws.Bools.{yes-or-no, both}
 use Rattle.numbers.specs.Laws.Integers.{eqZ-true, eqZ-refl}
-use Rattle.image.specs.Cells as cells
 use Rattle.image.specs.Reader.{keepsRules, mostClasses}
 use Rattle.image.specs.WellFormed.{KeepsShape, KeepsWord}
-use Rattle.image.specs.declared.Command.{Command}
-use Rattle.image.specs.declared.Command.the-variants.{Table, Cell, Word, End}
+use Rattle.image.specs.declared.Command.the-variants.{Cell, Word}
 use Rattle.image.specs.declared.Place.{Place}
 
 -- ---- a cell

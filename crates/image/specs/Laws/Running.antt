@@ -1,7 +1,6 @@
 -- Run and Expand of an accepted image, and of one that is refused.
-use Prim.Native.Nat.{ℕ, zero, suc, _+_, _-_, _^_, _≤_, _<_}
-use mathlib.Core.Path.{_≡_, refl, sym, _∙_, ap, ap₂, subst}
-use mathlib.Core.Bool.{true, false}
+use Prim.Native.Nat.{ℕ, suc, _+_, _-_, _^_, _≤_, _<_}
+use mathlib.Core.Path.{_≡_, refl, sym, _∙_, ap, ap₂}
 use mathlib.Core.List.{List, [], _∷_, _++_, map, append-assoc, append-nil}
 use native.Mathlib.Nat.{zero-add}
 use native.Mathlib.Numerals.{add-one}
@@ -11,18 +10,16 @@ use lib.ListN.{length, getD, drop, set, length-map, length-append, length-drop, 
 use lib.Seq.{drop-cons, drop-length, set-at}
 use lib.IntN.{ℤ, pos}
 use borrow.Author.Tests.{lt-ltb, le-ltb, eq-eqb, ne-eqb}
-use Rattle.numbers.specs.Answers.{Answer, accepted, refused, unless, mapAnswer, andThen, bufferAfter}
+use Rattle.numbers.specs.Answers.{Answer, accepted, refused, unless, bufferAfter}
 use Rattle.numbers.specs.Lists.{range}
 use Rattle.numbers.specs.Laws.Lists.{length-range, range-suc}
 use Rattle.image.specs.Cells.{Card}
-use Rattle.image.specs.Commands.{cardOf}
-use Rattle.image.specs.Evaluation.{Accepted, cardIn, cardRead, valuesTo, Expands}
+use Rattle.image.specs.Evaluation.{Accepted, cardRead, valuesTo, Expands}
 use Rattle.image.specs.Reader.{reading}
-use Rattle.image.specs.Run.{Result, runCard, run, cardValues, expand, expandBuffer, expanded}
+use Rattle.image.specs.Run.{runCard, run, cardValues, expand, expandBuffer, expanded}
 use Rattle.image.specs.Laws.Evaluating.{is-card}
 use Rattle.image.specs.Laws.Reading.{done}
 use Rattle.image.specs.declared.Command.{Command}
-use Rattle.image.specs.declared.Expanded.{Expanded}
 use Rattle.image.specs.declared.Expanded.the-variants as expanded-variants
 
 -- ---- what a check says

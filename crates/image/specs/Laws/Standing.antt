@@ -1,7 +1,7 @@
 -- What an accepted reading is: commands that stand in the image one behind another, each allowed where it stands.
-use Prim.Native.Nat.{ℕ, zero, suc, _+_, _≤_, _<_}
+use Prim.Native.Nat.{ℕ, zero, suc, _+_, _≤_}
 use mathlib.Core.Path.{_≡_, refl, sym, _∙_, ap, subst}
-use mathlib.Core.Bool.{Bool, true, false, false≢true}
+use mathlib.Core.Bool.{true, false, false≢true}
 use mathlib.Core.List.{List, [], _∷_}
 use native.Mathlib.Omega.{arith}
 use lib.ListN.{length, getD}
@@ -9,7 +9,7 @@ use borrow.Author.Tests.{eqb-true, eq-eqb}
 use Rattle.numbers.specs.Answers.{Answer, accepted, refused, mapAnswer, andThen}
 use Rattle.numbers.specs.Laws.Bools.{yes-or-no}
 use Rattle.image.specs.Kinds.{kindOf, isEnd}
-use Rattle.image.specs.Reader.{Due, due, dueByte, dueSize, commandAt, keepsRules, placeAfter, widthIsLeast, endsWell, judged, step, followedBy, readFrom}
+use Rattle.image.specs.Reader.{due, dueByte, dueSize, commandAt, keepsRules, placeAfter, widthIsLeast, endsWell, judged, step, followedBy, readFrom}
 use Rattle.image.specs.Laws.Due.{ends-well-last, ends-well-before}
 use Rattle.image.specs.Laws.Reading.{followed-on, followed-last, size-some}
 use Rattle.image.specs.Laws.Steps.{Stepped, step-accepted, step-judged, judged-accepted, command-kind}

@@ -1,19 +1,18 @@
 -- Words read, one in each cell, and Expand's entries.
-use Prim.Native.Nat.{ℕ, zero, suc, _+_, _-_, _^_, _≤_, _<_}
+use Prim.Native.Nat.{ℕ, _+_, _-_, _^_, _<_}
 use mathlib.Core.Path.{_≡_, refl, sym, _∙_, ap, subst}
-use mathlib.Core.List.{List, [], _∷_, map}
+use mathlib.Core.List.{List, [], _∷_}
 use native.Mathlib.Nat.{add-zero, zero-add, add-suc, suc-add}
 use native.Mathlib.Omega.{arith}
 use lib.Dec.{eqb}
 use lib.ListN.{length, getD}
 use lib.IntN.{ℤ, pos}
-use borrow.Author.Tests.{eqb-true}
 use Rattle.numbers.specs.Answers.{Answer, accepted, refused, mapAnswer, andThen, unless}
 use Rattle.numbers.specs.Lists.{range}
 use Rattle.numbers.specs.Laws.Lists.{length-range, getD-range, getD-map}
 use Rattle.image.specs.Cells.{Cell, Card}
 use Rattle.image.specs.Commands.{cardOf}
-use Rattle.image.specs.Evaluation.{Accepted, cardRead, valuesTo}
+use Rattle.image.specs.Evaluation.{Accepted, valuesTo}
 use Rattle.image.specs.Reader.{reading}
 use Rattle.image.specs.Run.{Result, runFrom, runCard, run, cardValues, expand}
 use Rattle.image.specs.Laws.Evaluating.{is-card}

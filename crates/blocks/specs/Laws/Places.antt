@@ -11,13 +11,12 @@ use lib.IntN.{ℤ}
 use Rattle.numbers.specs.Lists.{range, padded}
 use Rattle.numbers.specs.Laws.Lists.{range-suc, length-range, getD-range, getD-map}
 use Rattle.numbers.specs.Laws.Selections.{flatMap-append, range-add}
 use Rattle.blocks.specs.Blocks.{block, blocks, differences}
-use Rattle.blocks.specs.Classes.{numberIn, distinct, classes, classCount, classOf}
+use Rattle.blocks.specs.Classes.{classAt, numberIn, distinct, classes, classCount, classOf}
 use Rattle.blocks.specs.Layout.{numbersOf, firstsOf, cutNumbers, cutFirsts, allNumbers, allFirsts, allCounts, cutPlace}
 use Rattle.blocks.specs.Laws.Classes.{cutDifferences, cut-length, cut-at, class-count-le}
 use Rattle.blocks.specs.Laws.Cuts.{length-cut-numbers, length-cut-firsts}
 use Rattle.blocks.specs.Laws.Known.{number-at, number-by, Among, distinct-seen}
-use Rattle.diagram.specs.Building.{classAt}
 
 -- ---- one cut among all
 

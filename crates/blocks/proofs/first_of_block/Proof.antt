@@ -1,4 +1,4 @@
--- `diagram::first_of_block` meets its contract. Assumes nothing.
+-- `blocks::first_of_block` meets its contract. Assumes nothing.
 use Prim.Native.Nat.{_+_, _*_, _^_, _<_}
 use mathlib.Core.Path.{_≡_, sym, _∙_, ap}
 use native.Mathlib.Nat.{add-zero}
@@ -8,10 +8,10 @@ use lib.Pow.{pow-pos}
 use lib.IntN.{pos}
 use mir.Facts.{toZ-ofZ}
 use borrow.Author.Needs.{needs, scaled-fits}
 use Rattle.blocks.specs.Blocks.{first}
 use Rattle.blocks.specs.Laws.Blocks.{block-at}
-use Rattle.diagram.proofs.first_of_block.Statement.{statement}
-use Rattle.diagram.proofs.first_of_block.Tie as tie
+use Rattle.blocks.proofs.first_of_block.Statement.{statement}
+use Rattle.blocks.proofs.first_of_block.Tie as tie
 
 power-requires : tie.Need-power-requires
 power-requires c κs = search needs

@@ -1,13 +1,13 @@
--- `diagram::in_cut` meets its contract. Assumes nothing.
+-- `blocks::in_cut` meets its contract. Assumes nothing.
 use Prim.Native.Nat.{_+_, _-_, _<_, _≤_}
 use mathlib.Core.Path.{_≡_, ap}
 use native.Mathlib.Omega.{arith}
 use lib.ListN.{length, getD}
 use lib.Pow.{pow-pos}
 use borrow.Author.Needs.{needs, scaled-fits}
 use Rattle.blocks.specs.Layout.{cutPlace}
-use Rattle.diagram.proofs.in_cut.Statement.{statement}
-use Rattle.diagram.proofs.in_cut.Tie as tie
+use Rattle.blocks.proofs.in_cut.Statement.{statement}
+use Rattle.blocks.proofs.in_cut.Tie as tie
 
 power-requires : tie.Need-power-requires
 power-requires c κs = search needs

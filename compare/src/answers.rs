@@ -2,7 +2,7 @@
 //! value holds a pattern at first, which a refusal must leave.
 
 use crate::proved;
-use panstrait_reference::{Ran, Refusal};
+use panstrait_reference::{Built, Ran, Refusal};
 
 /// What is lent for single values before a call.
 const NUMBER: i32 = 0x5EED_1234;
@@ -17,6 +17,16 @@ fn answer<T, L: PartialEq>(number: u8, value: T, lent: L, pattern: L) -> Result<
             Err(refusal)
         }
     }
+}
+
+pub fn build(n: usize, table: &[i32], nodes: &mut [i32]) -> Result<Built, Refusal> {
+    let (mut count, mut offset) = (COUNT, NUMBER);
+    let number = proved::build(n, table, nodes, &mut count, &mut offset);
+    let built = Built {
+        nodes: count,
+        offset,
+    };
+    answer(number, built, (count, offset), (COUNT, NUMBER))
 }
 
 pub fn walk(n: usize, offset: i32, records: &[i32], x: usize) -> Result<i32, Refusal> {

@@ -17,6 +17,15 @@ mod c {
             counts: *mut usize,
             counts_len: usize,
         ) -> bool;
+        pub fn panstrait_build(
+            n: usize,
+            table: *const i32,
+            table_len: usize,
+            nodes: *mut i32,
+            nodes_len: usize,
+            count: *mut usize,
+            offset: *mut i32,
+        ) -> u8;
         pub fn panstrait_walk(
             n: usize,
             offset: i32,
@@ -68,6 +77,27 @@ pub fn classes(
             firsts.len(),
             counts.as_mut_ptr(),
             counts.len(),
+        )
+    }
+}
+
+/// Build: 0 with node count, offset and records, or the refusal's number.
+pub fn build(
+    n: usize,
+    table: &[i32],
+    nodes: &mut [i32],
+    count: &mut usize,
+    offset: &mut i32,
+) -> u8 {
+    unsafe {
+        c::panstrait_build(
+            n,
+            table.as_ptr(),
+            table.len(),
+            nodes.as_mut_ptr(),
+            nodes.len(),
+            count,
+            offset,
         )
     }
 }

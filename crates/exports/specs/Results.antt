@@ -5,6 +5,7 @@ use mathlib.Core.List.{List}
 use lib.ListN.{length}
 use lib.IntN.{ℤ}
 use Rattle.numbers.specs.Answers.{Answer, accepted, refused}
+use Rattle.diagram.specs.Build.{Summary, buildAnswer, buildBuffer}
 use Rattle.diagram.specs.Walk.{walk}
 use Rattle.image.specs.Run.{Result, run, expand, expandBuffer}
 
@@ -17,6 +18,13 @@ resultOf (refused k) = k
 abbrev pub leftBehind : {A B : Type 0} → Answer A → (A → B) → B → B
 leftBehind (accepted a) value before = value a
 leftBehind (refused k) value before = before
+
+-- What Build answers, and leaves in its node buffer and behind its two references.
+pub record BuildGiven (n : ℕ) (table nodes : List ℤ) (count : ℕ) (offset : ℤ) (result : ℕ) (nodes′ : List ℤ) (count′ : ℕ) (offset′ : ℤ) : Type 0 where
+  pub answered : result ≡ resultOf (buildAnswer n table (length nodes))
+  pub recorded : nodes′ ≡ buildBuffer n table nodes
+  pub counted : count′ ≡ leftBehind (buildAnswer n table (length nodes)) (λ s. s .nodes) count
+  pub valued : offset′ ≡ leftBehind (buildAnswer n table (length nodes)) (λ s. s .offset) offset
 
 -- What Walk answers and leaves behind its reference.
 pub record WalkGiven (n : ℕ) (offset : ℤ) (records : List ℤ) (x : ℕ) (value : ℤ) (result : ℕ) (value′ : ℤ) : Type 0 where

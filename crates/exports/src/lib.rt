@@ -3,7 +3,7 @@ ghost use mathlib.Core.Path.{_≡_};
 ghost use mathlib.Core.List.{[], _∷_};
 ghost use Rattle.numbers.specs.Widths.{railWidth, weightWidth};
 ghost use Rattle.exports.specs.Classing.{sizesFit, Classed};
-ghost use Rattle.exports.specs.Results.{WalkGiven, RunGiven, ExpandGiven};
+ghost use Rattle.exports.specs.Results.{BuildGiven, WalkGiven, RunGiven, ExpandGiven};
 
 // The rail width of so many classes.
 #[no_mangle]
@@ -57,6 +57,31 @@ pub extern "C" fn panstrait_classes(
         return true;
     }
     false
+}
+
+// Build: the records of a table, its node count and its offset, or the refusal's number.
+#[no_mangle]
+pub extern "C" fn panstrait_build(
+    n: usize,
+    table: &[i32],
+    nodes: &mut [i32],
+    count: &mut usize,
+    offset: &mut i32,
+) -> u8
+    ensures { λ r. ⌜ BuildGiven n (now (table .entry)) (now (nodes .entry)) (now (count .entry)) (now (offset .entry)) r (now (nodes .exit)) (now (count .exit)) (now (offset .exit)) ⌝ }
+{
+    let answer = diagram::build(n, table, nodes);
+    match answer {
+        diagram::Built::Diagram {
+            nodes: total,
+            offset: first,
+        } => {
+            *count = total;
+            *offset = first;
+            0
+        }
+        diagram::Built::Refused(number) => number,
+    }
 }
 
 // Walk: the value at X of a record list, or the refusal's number.

@@ -5,11 +5,22 @@ use mathlib.Core.List.{List}
 use lib.ListN.{length}
 use lib.IntN.{ℤ}
 use Rattle.numbers.specs.Answers.{Answer, accepted, refused, mapAnswer}
+use Rattle.diagram.specs.Build.{Summary, built, Builds}
 use Rattle.diagram.specs.Walk.{walk}
+use Rattle.diagram.specs.declared.Built.{Built}
 use Rattle.image.specs.Run.{Result, run, expand, expanded}
 use Rattle.image.specs.Evaluation.{Expands}
 use Rattle.image.specs.declared.Expanded.{Expanded}
-use Rattle.exports.specs.Results.{resultOf, leftBehind, WalkGiven, RunGiven, ExpandGiven}
+use Rattle.exports.specs.Results.{resultOf, leftBehind, BuildGiven, WalkGiven, RunGiven, ExpandGiven}
+
+pub build-given : (n : ℕ) (table nodes : List ℤ) (count : ℕ) (offset : ℤ) (r : Built) (nodes′ : List ℤ) → Builds n table nodes r nodes′ → BuildGiven n table nodes count offset (resultOf (built r)) nodes′ (leftBehind (built r) (λ s. s .nodes) count) (leftBehind (built r) (λ s. s .offset) offset)
+build-given n table nodes count offset r nodes′ builds =
+    record {
+      answered = ap resultOf (builds .answered);
+      recorded = builds .left;
+      counted = ap (λ a. leftBehind a (λ s. s .nodes) count) (builds .answered);
+      valued = ap (λ a. leftBehind a (λ s. s .offset) offset) (builds .answered);
+    }
 
 pub walk-given : (n : ℕ) (offset : ℤ) (records : List ℤ) (x : ℕ) (value : ℤ) (answer : Answer ℤ) → walk n offset records x ≡ answer → WalkGiven n offset records x value (resultOf answer) (leftBehind answer (λ v. v) value)
 walk-given n offset records x value answer e = record { answered = ap resultOf (sym e); valued = ap (λ a. leftBehind a (λ v. v) value) (sym e) }

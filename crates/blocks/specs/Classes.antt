@@ -7,7 +7,7 @@ use lib.Dec.{ltb}
 use lib.IntN.{ℤ}
 use Rattle.numbers.specs.Ranges.{eqZ}
 use Rattle.numbers.specs.Widths.{railWidth}
-use Rattle.blocks.specs.Blocks.{block, blocks, differences}
+use Rattle.blocks.specs.Blocks.{blocks, differences}
 
 -- Equal lists of integers, as a test.
 unfoldable pub same : List ℤ → List ℤ → Bool

@@ -2,7 +2,7 @@
 use Prim.Native.Nat.{ℕ, suc, _+_, _-_, _*_, _≤_, _<_}
 use mathlib.Core.Path.{_≡_}
 use mathlib.Core.Bool.{true, cond}
-use mathlib.Core.List.{List, [], map, flatMap}
+use mathlib.Core.List.{List, map, flatMap}
 use lib.ListN.{length, getD, set}
 use lib.IntN.{ℤ, _-ℤ_}
 use Rattle.numbers.specs.Lists.{overwritten}

@@ -5,9 +5,9 @@ use mathlib.Core.List.{List}
 use lib.ListN.{length}
 use lib.IntN.{ℤ}
 use Rattle.numbers.specs.Answers.{Answer, accepted, refused}
-use Rattle.diagram.specs.Build.{Summary, buildAnswer, buildBuffer}
+use Rattle.diagram.specs.Build.{buildAnswer, buildBuffer}
 use Rattle.diagram.specs.Walk.{walk}
-use Rattle.image.specs.Run.{Result, run, expand, expandBuffer}
+use Rattle.image.specs.Run.{run, expand, expandBuffer}
 
 -- The result: 0 for an accepted answer, else the refusal's number.
 abbrev pub resultOf : {A : Type 0} → Answer A → ℕ

@@ -1,7 +1,7 @@
 -- The card of a grouping keeps every rule of the image reader.
-use Prim.Native.Nat.{ℕ, zero, suc, _+_, _-_, _^_, _≤_, _<_}
-use mathlib.Core.Path.{_≡_, refl, sym, _∙_, ap, subst, subst₂}
-use mathlib.Core.Bool.{Bool, true, _&&_}
+use Prim.Native.Nat.{ℕ, _+_, _-_, _≤_}
+use mathlib.Core.Path.{_≡_, refl, _∙_, subst, subst₂}
+use mathlib.Core.Bool.{true}
 use mathlib.Core.List.{List, [], _∷_}
 use native.Mathlib.Nat.{zero-add}
 use native.Mathlib.Omega.{arith}
@@ -13,7 +13,7 @@ use Rattle.numbers.specs.Laws.Bools.{both}
 use Rattle.blocks.specs.Classes.{classCount}
 use Rattle.blocks.specs.Laws.Classes.{one-class-at-top}
 use Rattle.diagram.specs.Accepted.{Accepted}
-use Rattle.image.specs.WellFormed.{noWord, weights, KeepsWord, KeepsCell, KeepsCells, WellFormed}
+use Rattle.image.specs.WellFormed.{noWord, weights, KeepsCell, KeepsCells, WellFormed}
 use Rattle.compiler.specs.Cascade.{cellOf, cellsFrom, cardFor}
 use Rattle.compiler.specs.Sizes.{isGrouping}
 use Rattle.compiler.specs.Laws.Cells.{cell-words, cell-width, cell-outgoing, cell-address, cell-class-below, cell-weight-range, cell-weight-zero, bottom-outgoing, offset-in-range}

@@ -1,6 +1,6 @@
 -- `diagram::fork_at` meets its contract. Assumes nothing.
 use Prim.Native.Nat.{suc, _+_, _-_, _*_}
-use mathlib.Core.Path.{_≡_, sym, _∙_, ap, ap₂}
+use mathlib.Core.Path.{_≡_, _∙_, ap, ap₂}
 use native.Mathlib.Numerals.{add-one}
 use native.Mathlib.Omega.{arith}
 use lib.ListN.{getD}

@@ -1,10 +1,10 @@
 -- One variable of a walk: which edge is taken, and what the path from its end adds.
 use Prim.Native.Nat.{ℕ, zero, suc, _+_, _-_, _*_, _%_, _^_, _≤_, _<_}
 use mathlib.Core.Path.{_≡_, refl, sym, _∙_, ap}
-use mathlib.Core.Bool.{Bool, true, false, _&&_}
+use mathlib.Core.Bool.{true, false, _&&_}
 use mathlib.Core.List.{List}
 use native.Mathlib.Omega.{arith}
-use lib.ListN.{length, getD}
+use lib.ListN.{length}
 use lib.Dec.{leb, eqb}
 use lib.IntN.{ℤ, pos, natAbs, _+ℤ_, +ℤ-idl, +ℤ-idr, +ℤ-assoc}
 use lib.Signed.{mag}
@@ -18,7 +18,7 @@ use Rattle.numbers.specs.Laws.Lists.{length-range, getD-range, every-at}
 use Rattle.diagram.specs.Records.{recordSize}
 use Rattle.diagram.specs.Build.{nodeRoom}
 use Rattle.diagram.specs.Walk.{variableAt, lowAt, highAt, weightAt, childFits, recordFits, recordCount, listFits, bitSet, pathWeight, walkValue}
-use Rattle.diagram.specs.Edges.{Recorded, Walkable, edgeAt}
+use Rattle.diagram.specs.Edges.{Walkable, edgeAt}
 use Rattle.diagram.specs.declared.Edge.{Edge}
 use Rattle.diagram.specs.Laws.Checks.{unequal, child-node, weight-mag}
 use Rattle.diagram.specs.Laws.Paths.{path-terminal}

@@ -1,38 +1,30 @@
 -- The fork of a class, read at its first block: the places that are read, the nodes of the halves, and when they differ.
-use Prim.Native.Nat.{ℕ, zero, suc, _+_, _-_, _*_, _^_, _≤_, _<_}
-use mathlib.Core.Path.{_≡_, refl, sym, _∙_, ap, ap₂}
-use mathlib.Core.Bool.{Bool, true, false, not, _&&_, true≢false}
-use mathlib.Core.List.{List, [], _∷_, map, map-id}
+use Prim.Native.Nat.{ℕ, suc, _+_, _-_, _*_, _^_, _≤_, _<_}
+use mathlib.Core.Path.{_≡_, sym, _∙_, ap, ap₂}
+use mathlib.Core.Bool.{true}
+use mathlib.Core.List.{List, []}
 use native.Mathlib.Nat.{mul-le-mul-right, mul-le-mul-left, mul-one, add-zero, two-pow-succ}
 use native.Mathlib.Numerals.{add-one}
 use native.Mathlib.Omega.{arith}
 use lib.ListN.{length, getD}
-use lib.Dec.{eqb}
 use lib.Pow.{pow-pos, pow-mono}
-use lib.IntN.{ℤ, pos, _+ℤ_, _-ℤ_}
-use lib.Signed.{mag}
+use lib.IntN.{ℤ, pos, _-ℤ_}
 use mir.Syntax.{w32}
 use mir.Val.{SFits}
-use borrow.Author.Tests.{eqb-true, eq-eqb}
 use Rattle.numbers.specs.Lists.{every}
-use Rattle.numbers.specs.Ranges.{isValue, eqZ}
-use Rattle.numbers.specs.Laws.Bools.{yes-or-no, both, and-both}
+use Rattle.numbers.specs.Ranges.{isValue}
 use Rattle.numbers.specs.Laws.Bounds.{difference-weight}
-use Rattle.numbers.specs.Laws.Integers.{eqZ-true, eqZ-refl, sub-self, sub-add}
-use Rattle.numbers.specs.Laws.Lists.{every-at, map-map, map-same}
-use Rattle.numbers.specs.Laws.Order.{no-difference}
+use Rattle.numbers.specs.Laws.Lists.{every-at}
 use Rattle.numbers.specs.Laws.Powers.{part-room, power-split}
 use Rattle.blocks.specs.Blocks.{block, first, lowerHalf, upperHalf, differences}
-use Rattle.blocks.specs.Classes.{same, classes, classCount, classOf}
+use Rattle.blocks.specs.Classes.{classes, classCount, classOf}
 use Rattle.blocks.specs.Layout.{cutPlace}
 use Rattle.blocks.specs.Laws.Blocks.{block-at, block-within}
-use Rattle.blocks.specs.Laws.Classes.{class-below, class-stands, same-class, class-count-le}
+use Rattle.blocks.specs.Laws.Classes.{class-below, class-stands, class-count-le}
 use Rattle.blocks.specs.Laws.Differences.{differences-again}
-use Rattle.blocks.specs.Laws.Same.{same-true, equal-same}
 use Rattle.diagram.specs.Records.{branches, node}
 use Rattle.blocks.specs.Classes.{classAt}
-use Rattle.diagram.specs.Building.{forkOf, NodesKnown, Forking}
-use Rattle.diagram.specs.Accepted.{Accepted}
+use Rattle.diagram.specs.Building.{forkOf, Forking}
 use Rattle.diagram.specs.declared.Fork.{Fork}
 use Rattle.diagram.specs.Laws.Alike.{BlockLike, lower-of-block, upper-of-block, whole-length, like-lower, like-upper}
 use Rattle.diagram.specs.Laws.Checks.{variables-range, weight-mag}

@@ -1,5 +1,5 @@
 -- `exports::panstrait_run` meets its contract: the answer that Run's enum stands for comes back. Assumes nothing.
-use mathlib.Core.Path.{_≡_, sym, _∙_, ap}
+use mathlib.Core.Path.{sym, _∙_, ap}
 use mir.Facts.{toZ-ofZ}
 use borrow.Author.Needs.{needs}
 use Rattle.numbers.specs.Answers.{accepted, refused}

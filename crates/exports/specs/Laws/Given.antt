@@ -5,7 +5,7 @@ use mathlib.Core.List.{List}
 use lib.ListN.{length}
 use lib.IntN.{ℤ}
 use Rattle.numbers.specs.Answers.{Answer, accepted, refused, mapAnswer}
-use Rattle.diagram.specs.Build.{Summary, built, Builds}
+use Rattle.diagram.specs.Build.{built, Builds}
 use Rattle.diagram.specs.Walk.{walk}
 use Rattle.diagram.specs.declared.Built.{Built}
 use Rattle.image.specs.Run.{Result, run, expand, expanded}

@@ -14,6 +14,5 @@ pub mod Pieces
 pub mod Powers
 pub mod Rows
 pub mod Selections
-pub mod Sums
 pub mod Tallies
 pub mod Widths

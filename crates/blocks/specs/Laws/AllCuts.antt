@@ -11,7 +11,8 @@ use lib.IntN.{ℤ}
 use Rattle.numbers.specs.Lists.{range, overwritten}
 use Rattle.numbers.specs.Laws.Lists.{range-suc}
 use Rattle.numbers.specs.Laws.Overwriting.{take-overwritten, length-overwritten}
-use Rattle.numbers.specs.Laws.Tallies.{flatMap-append, map-append}
+use Rattle.numbers.specs.Laws.Selections.{flatMap-append}
+use Rattle.numbers.specs.Laws.Lists.{map-append}
 use Rattle.blocks.specs.Classes.{classCount}
 use Rattle.blocks.specs.Layout.{cutNumbers, cutFirsts, allNumbers, allFirsts, allCounts, cutPlace, CutsRoom, CutPlaced, AllClassed}
 use Rattle.blocks.specs.Laws.Cuts.{length-cut-numbers, length-cut-firsts, cut-end, cut-within}

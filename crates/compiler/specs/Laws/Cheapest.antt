@@ -11,7 +11,7 @@ use borrow.Author.Tests.{ltb-true, ltb-false, lt-ltb, le-ltb}
 use Rattle.numbers.specs.Answers.{Answer, accepted, refused, mapAnswer}
 use Rattle.numbers.specs.Lists.{keep}
 use Rattle.numbers.specs.Laws.Bools.{yes-or-no}
-use Rattle.numbers.specs.Laws.Sums.{keep-append, keep-map, keep-same, keep-none}
+use Rattle.numbers.specs.Laws.Selections.{keep-append, keep-map, keep-same, keep-none}
 use Rattle.compiler.specs.Groupings.{descending, groupings, cheapest, firstCheapest}
 use Rattle.compiler.specs.Sizes.{widerFirst, priceFrom, cellsFit, cheapestFrom, Choice, noList, costing, noted, offered, tried, choices, choiceAt, sizeOf, sizesFrom, answered}
 use Rattle.compiler.specs.Laws.Groupings.{WidestFirst, startingTo, groupings-zero, groupings-suc}
@@ -299,7 +299,7 @@ module _ (price : ℕ → ℕ → ℕ) (fitsCell : ℕ → ℕ → Bool) where
   after-unfit : (h g : ℕ) (l : List (List ℕ)) → fitsCell h g ≡ false → cheapestAfter h g l ≡ refused 9
   unfolding cheapestAfter cellsFit firstCheapest
   after-unfit h g l e =
-      ap (firstCheapest (priceFrom price h)) (keep-map (λ sizes. g ∷ sizes) (cellsFit fitsCell h) l ∙ ap (map (λ sizes. g ∷ sizes)) (keep-none (λ sizes. fitsCell h g && cellsFit fitsCell (h + g) sizes) l (λ sizes. rw e)))
+      ap (firstCheapest (priceFrom price h)) (keep-map (λ sizes. g ∷ sizes) (cellsFit fitsCell h) l ∙ ap (map (λ sizes. g ∷ sizes)) (keep-none (λ sizes. fitsCell h g && cellsFit fitsCell (h + g) sizes) l [] (λ k below. rw e)))
 
   -- A list with one more size in front, offered against an answer.
   noted-offer : (h g : ℕ) (soFar rest : Answer (List ℕ)) → noted price h (firstOfTwo (priceFrom price h) soFar (mapAnswer (λ sizes. g ∷ sizes) rest)) ≡ offered g (price h g) (noted price (h + g) rest) (noted price h soFar)

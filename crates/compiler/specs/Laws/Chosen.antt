@@ -10,7 +10,7 @@ use lib.IntN.{ℤ}
 use Rattle.numbers.specs.Answers.{Answer, accepted, refused}
 use Rattle.numbers.specs.Lists.{keep, sum}
 use Rattle.numbers.specs.Laws.Bools.{yes-or-no}
-use Rattle.numbers.specs.Laws.Sums.{keep-same, among-kept, kept-among}
+use Rattle.numbers.specs.Laws.Selections.{keep-same, among-kept, kept-among}
 use Rattle.image.specs.Cells.{bitsOf, totalBits}
 use Rattle.compiler.specs.Cascade.{cellOf, cellsFrom}
 use Rattle.compiler.specs.Groupings.{groupings, addressWidth, fitsFrom, fits, cost, firstCheapest, chosen}

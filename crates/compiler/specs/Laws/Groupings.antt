@@ -12,7 +12,8 @@ use lib.Dec.{leb, ltb, eqb}
 use borrow.Author.Tests.{ltb-true, lt-ltb, le-ltb, leb-true, leb-false, le-leb, lt-leb, eqb-true, eqb-false, eq-eqb, ne-eqb}
 use Rattle.numbers.specs.Lists.{every, keep, tally, sum}
 use Rattle.numbers.specs.Laws.Bools.{yes-or-no, both, and-both}
-use Rattle.numbers.specs.Laws.Sums.{keep-passed, keep-failed, kept-among, tally-passed, tally-failed, tally-append, tally-none, tally-map, tally-same}
+use Rattle.numbers.specs.Laws.Selections.{keep-passed, keep-failed, kept-among}
+use Rattle.numbers.specs.Laws.Tallies.{tally-passed, tally-failed, tally-append, tally-none, tally-map, tally-same}
 use Rattle.compiler.specs.Groupings.{descending, closing, groupingsWithin, groupings}
 use Rattle.compiler.specs.Sizes.{sameSizes, isGrouping, occurrences, widerFirst}
 
@@ -88,8 +89,8 @@ occurrences-prefixed : (a g : ℕ) (rest : List ℕ) (l : List (List ℕ)) → o
 unfolding occurrences sameSizes
 occurrences-prefixed a g rest l =
     yes-or-no (eqb a g)
-    (λ e. tally-map (λ sizes. g ∷ sizes) (sameSizes (a ∷ rest)) l ∙ tally-same (λ sizes. eqb a g && sameSizes rest sizes) (sameSizes rest) l (λ sizes. rw e) ∙ rw e)
-    (λ e. tally-map (λ sizes. g ∷ sizes) (sameSizes (a ∷ rest)) l ∙ tally-none (λ sizes. eqb a g && sameSizes rest sizes) l (λ sizes. rw e) ∙ rw e)
+    (λ e. tally-map (sameSizes (a ∷ rest)) (λ sizes. g ∷ sizes) l ∙ tally-same (λ sizes. eqb a g && sameSizes rest sizes) (sameSizes rest) l (λ sizes. rw e) ∙ rw e)
+    (λ e. tally-map (sameSizes (a ∷ rest)) (λ sizes. g ∷ sizes) l ∙ tally-none (λ sizes. eqb a g && sameSizes rest sizes) l (λ sizes. rw e) ∙ rw e)
 
 -- One more size from the top: it is the size asked for, or the others decide.
 one-more-size : (a b : ℕ) (count : ℕ → ℕ) → cond (eqb a (suc b)) (count (suc b)) 0 + cond (leb 1 a && leb a b) (count a) 0 ≡ cond (leb 1 a && leb a (suc b)) (count a) 0
@@ -131,7 +132,7 @@ unfolding flatMap descending occurrences tally keep sameSizes
 occurrences-empty zero after = refl
 occurrences-empty (suc b) after =
     tally-append (sameSizes []) (map (λ sizes. suc b ∷ sizes) (after (suc b))) (startingTo b after)
-    ∙ ap₂ (λ x y. x + y) (tally-map (λ sizes. suc b ∷ sizes) (sameSizes []) (after (suc b)) ∙ tally-none (λ sizes. false) (after (suc b)) (λ sizes. refl)) (occurrences-empty b after)
+    ∙ ap₂ (λ x y. x + y) (tally-map (sameSizes []) (λ sizes. suc b ∷ sizes) (after (suc b)) ∙ tally-none (λ sizes. false) (after (suc b)) (λ sizes. refl)) (occurrences-empty b after)
 
 -- ---- each grouping once
 

@@ -10,7 +10,7 @@ use lib.IntN.{ℤ}
 use Rattle.numbers.specs.Lists.{range, tally}
 use Rattle.numbers.specs.Laws.Bools.{yes-or-no}
 use Rattle.numbers.specs.Laws.Integers.{eqZ-refl}
-use Rattle.numbers.specs.Laws.Tallies.{tally-nil, tally-here, tally-later, tally-all, tally-none, tally-append, tally-either}
+use Rattle.numbers.specs.Laws.Tallies.{tally-nil, tally-passed, tally-failed, tally-all, tally-none, tally-append, tally-either}
 use Rattle.blocks.specs.Classes.{same, numberIn, learn, learnAll, distinct}
 use Rattle.blocks.specs.Laws.Same.{same-true}
 use Rattle.blocks.specs.Laws.Known.{number-here, number-later, learn-known, learn-new, known-or-new, Among, distinct-seen}
@@ -55,7 +55,7 @@ new-unknown (k ∷ known) d h =
     yes-or-no (same k d)
     (λ e. absurd (let l : suc (length known) ≤ 0 = rw (number-here k known d e) at h in omega arith))
     (λ e.
-    tally-later (λ x. same x d) k known e
+    tally-failed (λ x. same x d) k known e
     ∙ new-unknown known d (let l : suc (length known) ≤ suc (numberIn known d) = rw (number-later k known d e) at h in omega arith))
 
 -- Learning keeps each list at most once.
@@ -66,8 +66,8 @@ once-learn known d once c =
     (λ new.
     rw (learn-new known d new, tally-append (λ k. same k c) known (d ∷ []))
     (yes-or-no (same d c)
-    (λ e. rw (tally-here (λ k. same k c) d [] e, tally-nil (λ k. same k c)) (let z : tally (λ k. same k c) known ≡ 0 = rw (same-true d c e) at (new-unknown known d new) in omega arith))
-    (λ e. rw (tally-later (λ k. same k c) d [] e, tally-nil (λ k. same k c)) (let o = once c in omega arith))))
+    (λ e. rw (tally-passed (λ k. same k c) d [] e, tally-nil (λ k. same k c)) (let z : tally (λ k. same k c) known ≡ 0 = rw (same-true d c e) at (new-unknown known d new) in omega arith))
+    (λ e. rw (tally-failed (λ k. same k c) d [] e, tally-nil (λ k. same k c)) (let o = once c in omega arith))))
 
 once-learnAll : (known ds : List (List ℤ)) → ((c : List ℤ) → tally (λ k. same k c) known ≤ 1) → (c : List ℤ) → tally (λ k. same k c) (learnAll known ds) ≤ 1
 unfolding learnAll

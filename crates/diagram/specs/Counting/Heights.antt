@@ -8,7 +8,8 @@ use lib.ListN.{length, length-append, length-map}
 use lib.IntN.{ℤ}
 use Rattle.numbers.specs.Lists.{range}
 use Rattle.numbers.specs.Laws.Lists.{range-suc}
-use Rattle.numbers.specs.Laws.Tallies.{flatMap-append, sum-run-suc}
+use Rattle.numbers.specs.Laws.Tallies.{sum-run-suc}
+use Rattle.numbers.specs.Laws.Selections.{flatMap-append}
 use Rattle.diagram.specs.Records.{kinds, recordsBelow, recordOf, recordsAt, records, nodeCount}
 use Rattle.diagram.specs.Bound.{jumps, risingKinds}
 use Rattle.diagram.specs.Counting.Kinds.{kinds-le-blocks, kinds-le-rising}

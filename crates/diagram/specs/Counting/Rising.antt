@@ -3,7 +3,7 @@ use Prim.Native.Nat.{ℕ, zero, suc, _+_, _*_, _^_, _≤_, _<_}
 use mathlib.Core.Path.{_≡_, refl, sym, _∙_, ap}
 use mathlib.Core.Bool.{true, false, _||_, or-true, true≢false}
 use mathlib.Core.List.{List, [], _∷_, _++_, map, flatMap}
-use native.Mathlib.Nat.{zero-add, suc-add, pow-zero, pow-succ'}
+use native.Mathlib.Nat.{zero-add, suc-add, pow-zero, pow-suc}
 use native.Mathlib.Omega.{arith}
 use lib.ListN.{length, replicate, drop, length-map}
 use lib.Dec.{ltb}
@@ -13,7 +13,7 @@ use Rattle.numbers.specs.Lists.{range}
 use Rattle.numbers.specs.Laws.Bools.{yes-or-no}
 use Rattle.numbers.specs.Laws.Integers.{sub-add}
 use Rattle.numbers.specs.Laws.Lists.{length-range}
-use Rattle.numbers.specs.Laws.Tallies.{length-flatMap}
+use Rattle.numbers.specs.Laws.Selections.{length-flatMap}
 use Rattle.blocks.specs.Blocks.{first}
 use Rattle.blocks.specs.Classes.{same}
 use Rattle.blocks.specs.Laws.Same.{same-refl}
@@ -41,10 +41,11 @@ pub rising-count : (p m : ℕ) (v : ℤ) → length (rising p m v) ≡ (p + 1) ^
 unfolding rising
 rising-count p zero v = sym (pow-zero (p + 1))
 rising-count p (suc m) v =
-    length-flatMap (λ s. map (λ l. v ∷ l) (rising p m (v +ℤ pos s))) ((p + 1) ^ m) (range 0 (suc p))
+    length-flatMap (λ s. map (λ l. v ∷ l) (rising p m (v +ℤ pos s))) ((p + 1) ^ m)
     (λ s. length-map (rising p m (v +ℤ pos s)) (λ l. v ∷ l) ∙ rising-count p m (v +ℤ pos s))
-    ∙ ap (λ n. n * (p + 1) ^ m) (length-range 0 (suc p) ∙ (let e : suc p ≡ p + 1 = omega arith in e))
-    ∙ sym (pow-succ' (p + 1) m)
+    (range 0 (suc p))
+    ∙ ap (λ n. (p + 1) ^ m * n) (length-range 0 (suc p) ∙ (let e : suc p ≡ p + 1 = omega arith in e))
+    ∙ sym (pow-suc (p + 1) m)
 
 -- The first rising list is the constant one.
 constant-first : (p m : ℕ) (v : ℤ) → (others : List (List ℤ)) × (rising p m v ≡ replicate (suc m) v ∷ others)

@@ -9,8 +9,9 @@ use lib.ListN.{length, getD, take}
 use lib.IntN.{ℤ}
 use Rattle.numbers.specs.Lists.{keep}
 use Rattle.numbers.specs.Laws.Bools.{yes-or-no}
-use Rattle.numbers.specs.Laws.Rows.{keep-append, keep-one, keep-other, kept-at, kept-below}
-use Rattle.numbers.specs.Laws.Selections.{keep-passed, keep-failed, kept-from, passed-kept, keep-map}
+use Rattle.numbers.specs.Laws.Rows.{keep-one, keep-other, kept-at, kept-below}
+use Rattle.numbers.specs.Laws.Selections.{keep-append}
+use Rattle.numbers.specs.Laws.Selections.{keep-passed, keep-failed, kept-from, passed-kept, keep-unseen}
 use Rattle.blocks.specs.Blocks.{blocks, differences}
 use Rattle.blocks.specs.Classes.{numberIn, learn, learnAll, distinct, classes}
 use Rattle.blocks.specs.Laws.Known.{number-at, number-by, learn-known, learn-new, known-or-new, own-distinct}
@@ -76,7 +77,7 @@ module _ (n h i : ℕ) (cut : h + suc i ≡ n) (table : List ℤ) where
   pub kinds-are : kinds n table i ≡ keep (branches i) (classes n table h)
   unfolding kinds classes
   kinds-are =
-      ap distinct (sym (keep-map (branches i) differences (blocks n table (suc i)) (branches-differences i)))
+      ap distinct (sym (keep-unseen (branches i) differences (blocks n table (suc i)) (branches-differences i)))
       ∙ distinct-kept (branches i) (map differences (blocks n table (suc i)))
       ∙ ap (λ k. keep (branches i) (distinct (map differences (blocks n table k)))) (let e : suc i ≡ n - h = omega arith in e)
 

@@ -14,7 +14,8 @@ use Rattle.numbers.specs.Lists.{keep, overwritten}
 use Rattle.numbers.specs.Laws.Bools.{yes-or-no}
 use Rattle.numbers.specs.Laws.Lists.{getD-map}
 use Rattle.numbers.specs.Laws.Overwriting.{length-overwritten}
-use Rattle.numbers.specs.Laws.Rows.{keep-append, keep-next, keep-same, overwritten-none, overwritten-more, store-behind, new-entry, later-entry}
+use Rattle.numbers.specs.Laws.Rows.{keep-next, keep-same, overwritten-none, overwritten-more, store-behind, new-entry, later-entry}
+use Rattle.numbers.specs.Laws.Selections.{keep-append}
 use Rattle.numbers.specs.Laws.Selections.{flatMap-append, length-flatMap}
 use Rattle.blocks.specs.Blocks.{block, lowerHalf, differences}
 use Rattle.blocks.specs.Classes.{numberIn, classes, classCount}

@@ -10,7 +10,7 @@ use Rattle.numbers.specs.Lists.{range, keep}
 use Rattle.numbers.specs.Laws.Bools.{yes-or-no}
 use Rattle.numbers.specs.Laws.Integers.{sub-add}
 use Rattle.numbers.specs.Laws.Lists.{getD-map, map-take, map-drop, map-map, map-same}
-use Rattle.numbers.specs.Laws.Selections.{keep-map, flatMap-same}
+use Rattle.numbers.specs.Laws.Selections.{keep-unseen, flatMap-same}
 use Rattle.blocks.specs.Blocks.{block, blocks, first, lowerHalf, upperHalf, differences}
 use Rattle.blocks.specs.Classes.{numberIn, distinct}
 use Rattle.blocks.specs.Laws.Differences.{differences-more}
@@ -37,7 +37,7 @@ kinds-shift : (n : ℕ) (c : ℤ) (table : List ℤ) (i : ℕ) → kinds n (shif
 unfolding kinds
 kinds-shift n c table i =
     ap (λ bs. distinct (map differences (keep (branches i) bs))) (blocks-shift n c table (suc i))
-    ∙ ap (λ bs. distinct (map differences bs)) (keep-map (branches i) (shift c) (blocks n table (suc i)) (branches-shift i c))
+    ∙ ap (λ bs. distinct (map differences bs)) (keep-unseen (branches i) (shift c) (blocks n table (suc i)) (branches-shift i c))
     ∙ ap distinct (map-map (shift c) differences kept ∙ map-same (λ b. differences (shift c b)) differences kept (λ b. differences-more b c))
   where
     kept : List (List ℤ)

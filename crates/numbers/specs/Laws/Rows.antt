@@ -10,18 +10,9 @@ use lib.Seq.{take-suc, split-at, length-take-le, drop-cons, drop-append-add, dro
 use Rattle.numbers.specs.Lists.{keep, overwritten}
 use Rattle.numbers.specs.Laws.Bools.{yes-or-no}
 use Rattle.numbers.specs.Laws.Overwriting.{take-overwritten}
-use Rattle.numbers.specs.Laws.Selections.{keep-passed, keep-failed}
+use Rattle.numbers.specs.Laws.Selections.{keep-passed, keep-failed, keep-append}
 
 module _ {A : Type 0} (test : A → Bool) where
-  -- What passes of two lists.
-  pub keep-append : (l m : List A) → keep test (l ++ m) ≡ keep test l ++ keep test m
-  unfolding keep
-  keep-append [] m = refl
-  keep-append (a ∷ l) m =
-      yes-or-no (test a)
-      (λ e. keep-passed test a (l ++ m) e ∙ ap (λ k. a ∷ k) (keep-append l m) ∙ ap (λ k. k ++ keep test m) (sym (keep-passed test a l e)))
-      (λ e. keep-failed test a (l ++ m) e ∙ keep-append l m ∙ ap (λ k. k ++ keep test m) (sym (keep-failed test a l e)))
-
   -- Of a list and one element more.
   pub keep-one : (a : A) → test a ≡ true → keep test (a ∷ []) ≡ a ∷ []
   unfolding keep
@@ -34,16 +25,16 @@ module _ {A : Type 0} (test : A → Bool) where
   module _ (l : List A) (d : A) (c : ℕ) (below : c < length l) where
     -- Of the first elements, with the next that passes or fails.
     pub keep-next : test (getD l c d) ≡ true → keep test (take (suc c) l) ≡ keep test (take c l) ++ getD l c d ∷ []
-    keep-next e = ap (keep test) (take-suc l c d below) ∙ keep-append (take c l) (getD l c d ∷ []) ∙ ap (λ k. keep test (take c l) ++ k) (keep-one (getD l c d) e)
+    keep-next e = ap (keep test) (take-suc l c d below) ∙ keep-append test (take c l) (getD l c d ∷ []) ∙ ap (λ k. keep test (take c l) ++ k) (keep-one (getD l c d) e)
 
     pub keep-same : test (getD l c d) ≡ false → keep test (take (suc c) l) ≡ keep test (take c l)
-    keep-same e = ap (keep test) (take-suc l c d below) ∙ keep-append (take c l) (getD l c d ∷ []) ∙ ap (λ k. keep test (take c l) ++ k) (keep-other (getD l c d) e) ∙ append-nil (keep test (take c l))
+    keep-same e = ap (keep test) (take-suc l c d below) ∙ keep-append test (take c l) (getD l c d ∷ []) ∙ ap (λ k. keep test (take c l) ++ k) (keep-other (getD l c d) e) ∙ append-nil (keep test (take c l))
 
     -- An element that passes stands behind those before it that do.
     kept-split : test (getD l c d) ≡ true → keep test l ≡ keep test (take c l) ++ getD l c d ∷ keep test (drop (suc c) l)
     kept-split e =
         ap (keep test) (split-at l c d below)
-        ∙ keep-append (take c l) (getD l c d ∷ drop (suc c) l)
+        ∙ keep-append test (take c l) (getD l c d ∷ drop (suc c) l)
         ∙ ap (λ k. keep test (take c l) ++ k) (keep-passed test (getD l c d) (drop (suc c) l) e)
 
     pub kept-at : test (getD l c d) ≡ true → getD (keep test l) (length (keep test (take c l))) d ≡ getD l c d

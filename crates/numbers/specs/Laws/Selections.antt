@@ -1,8 +1,9 @@
 -- Lists made from lists: what passes a test, lists joined end to end, runs in two parts.
 use Prim.Native.Nat.{ℕ, zero, suc, _+_, _*_, _≤_, _<_}
 use mathlib.Core.Path.{_≡_, refl, sym, _∙_, ap, ap₂}
+use mathlib.Core.Logic.{_⊎_, inl, inr}
 use mathlib.Core.Bool.{Bool, true, false}
-use mathlib.Core.List.{List, [], _∷_, _++_, map, flatMap, append-assoc}
+use mathlib.Core.List.{List, [], _∷_, _++_, map, flatMap, append-assoc, List·Memᴰ, List·Memᴰ·head, List·Memᴰ·tail, List·Memᴰ·not-nil, List·Memᴰ·cases-cons}
 use native.Mathlib.Nat.{add-zero, add-suc, suc-add, zero-add, mul-zero, mul-suc}
 use native.Mathlib.Omega.{arith}
 use lib.ListN.{length, getD, length-append, List·getD-append}
@@ -21,6 +22,15 @@ module _ {A : Type 0} (test : A → Bool) where
   pub keep-failed : (x : A) (l : List A) → test x ≡ false → keep test (x ∷ l) ≡ keep test l
   unfolding keep
   keep-failed x l e = rw (e, keep)
+
+  -- Of appended lists the kept parts are appended.
+  pub keep-append : (l more : List A) → keep test (l ++ more) ≡ keep test l ++ keep test more
+  unfolding keep
+  keep-append [] more = refl
+  keep-append (a ∷ l) more =
+      yes-or-no (test a)
+      (λ e. keep-passed a (l ++ more) e ∙ ap (λ k. a ∷ k) (keep-append l more) ∙ ap (λ k. k ++ keep test more) (sym (keep-passed a l e)))
+      (λ e. keep-failed a (l ++ more) e ∙ keep-append l more ∙ ap (λ k. k ++ keep test more) (sym (keep-failed a l e)))
 
   -- No more are kept than there are.
   pub keep-length : (l : List A) → length (keep test l) ≤ length l
@@ -74,14 +84,52 @@ module _ {A : Type 0} (test : A → Bool) where
   keep-none [] a h = refl
   keep-none (x ∷ l) a h = keep-failed x l (h 0 (omega arith)) ∙ keep-none l a (λ j p. h (suc j) (omega arith))
 
--- Elements changed in a way that the test does not see.
-pub keep-map : {A : Type 0} (test : A → Bool) (f : A → A) (l : List A) → ((a : A) → test (f a) ≡ test a) → keep test (map f l) ≡ map f (keep test l)
+-- Equal tests keep the same.
+pub keep-same : {A : Type 0} (left right : A → Bool) (l : List A) → ((a : A) → left a ≡ right a) → keep left l ≡ keep right l
 unfolding keep
-keep-map test f [] h = refl
-keep-map test f (x ∷ l) h =
-    yes-or-no (test x)
-    (λ e. keep-passed test (f x) (map f l) (h x ∙ e) ∙ ap (λ m. f x ∷ m) (keep-map test f l h) ∙ ap (map f) (sym (keep-passed test x l e)))
-    (λ e. keep-failed test (f x) (map f l) (h x ∙ e) ∙ keep-map test f l h ∙ ap (map f) (sym (keep-failed test x l e)))
+keep-same left right [] h = refl
+keep-same left right (a ∷ l) h =
+    yes-or-no (right a)
+    (λ e. keep-passed left a l (h a ∙ e) ∙ ap (λ k. a ∷ k) (keep-same left right l h) ∙ sym (keep-passed right a l e))
+    (λ e. keep-failed left a l (h a ∙ e) ∙ keep-same left right l h ∙ sym (keep-failed right a l e))
+
+-- What is kept of a mapped list.
+pub keep-map : {A B : Type 0} (f : A → B) (test : B → Bool) (l : List A) → keep test (map f l) ≡ map f (keep (λ a. test (f a)) l)
+unfolding keep
+keep-map f test [] = refl
+keep-map f test (a ∷ l) =
+    yes-or-no (test (f a))
+    (λ e. keep-passed test (f a) (map f l) e ∙ ap (λ k. f a ∷ k) (keep-map f test l) ∙ ap (map f) (sym (keep-passed (λ a. test (f a)) a l e)))
+    (λ e. keep-failed test (f a) (map f l) e ∙ keep-map f test l ∙ ap (map f) (sym (keep-failed (λ a. test (f a)) a l e)))
+
+-- Elements changed in a way that the test does not see.
+pub keep-unseen : {A : Type 0} (test : A → Bool) (f : A → A) (l : List A) → ((a : A) → test (f a) ≡ test a) → keep test (map f l) ≡ map f (keep test l)
+keep-unseen test f l h = keep-map f test l ∙ ap (map f) (keep-same (λ a. test (f a)) test l h)
+
+-- ---- what is among those that pass
+
+module _ {A : Type 0} (test : A → Bool) where
+  -- What is in the list and passes is kept.
+  pub among-kept : {a : A} {l : List A} → List·Memᴰ a l → test a ≡ true → List·Memᴰ a (keep test l)
+  unfolding keep
+  among-kept (List·Memᴰ·head {x = x} {xs = l} e) h = rw (keep-passed test x l (ap test (sym e) ∙ h)) (List·Memᴰ·head e)
+  among-kept (List·Memᴰ·tail {x = x} {xs = l} m) h =
+      yes-or-no (test x)
+      (λ e. rw (keep-passed test x l e) (List·Memᴰ·tail (among-kept m h)))
+      (λ e. rw (keep-failed test x l e) (among-kept m h))
+
+  -- What is kept is in the list and passes.
+  pub kept-among : {a : A} (l : List A) → List·Memᴰ a (keep test l) → List·Memᴰ a l × (test a ≡ true)
+  unfolding keep
+  kept-among [] m = absurd (List·Memᴰ·not-nil m)
+  kept-among {a} (x ∷ l) m =
+      yes-or-no (test x)
+      (λ e. first-or-later e (kept-among l) (List·Memᴰ·cases-cons (rw (keep-passed test x l e) at m)))
+      (λ e. let r = kept-among l (rw (keep-failed test x l e) at m) in (List·Memᴰ·tail (r .0), r .1))
+    where
+      first-or-later : test x ≡ true → (List·Memᴰ a (keep test l) → List·Memᴰ a l × (test a ≡ true)) → (a ≡ x) ⊎ List·Memᴰ a (keep test l) → List·Memᴰ a (x ∷ l) × (test a ≡ true)
+      first-or-later e later (inl p) = (List·Memᴰ·head p, ap test p ∙ e)
+      first-or-later e later (inr q) = let r = later q in (List·Memᴰ·tail (r .0), r .1)
 
 -- ---- lists joined end to end
 

@@ -7,12 +7,15 @@ use panstrait_compare::answers;
 use panstrait_reference as reference;
 use panstrait_reference::Refusal;
 
-/// Both programs' answers for a buffer of so many numbers, compared whole.
+/// Both programs' answers for a buffer of so many numbers, compared whole, with
+/// the numbers before and after it.
 fn same_build(n: usize, table: &[i32], room: usize) -> Result<(), Refusal> {
-    let (mut ours, mut theirs) = (vec![NUMBER; room], vec![NUMBER; room]);
-    let answer = answers::build(n, table, &mut ours);
+    let mut ours = vec![NUMBER; room + 8];
+    let mut theirs = ours.clone();
+    let lent = 4..room + 4;
+    let answer = answers::build(n, table, &mut ours[lent.clone()]);
     assert!(
-        answer == reference::build(n, table, &mut theirs),
+        answer == reference::build(n, table, &mut theirs[lent]),
         "n {n}, room {room}: {answer:?} for {table:?}"
     );
     assert!(ours == theirs, "n {n}, room {room}: records of {table:?}");

@@ -18,16 +18,19 @@ fn same_run(image: &[u8], x: usize) -> Result<Ran, Refusal> {
     answer
 }
 
-/// Both programs' answers for a table buffer of so many numbers, compared whole.
+/// Both programs' answers for a table buffer of so many numbers, compared
+/// whole, with the numbers before and after it.
 fn same_expand(image: &[u8], room: usize) -> Result<Vec<i32>, Refusal> {
-    let (mut ours, mut theirs) = (vec![NUMBER; room], vec![NUMBER; room]);
-    let answer = answers::expand(image, &mut ours);
+    let mut ours = vec![NUMBER; room + 8];
+    let mut theirs = ours.clone();
+    let lent = 4..room + 4;
+    let answer = answers::expand(image, &mut ours[lent.clone()]);
     assert!(
-        answer == reference::expand(image, &mut theirs),
+        answer == reference::expand(image, &mut theirs[lent.clone()]),
         "room {room}: {answer:?} for {image:02x?}"
     );
     assert!(ours == theirs, "room {room}: values of {image:02x?}");
-    answer.map(|()| ours)
+    answer.map(|()| ours[lent].to_vec())
 }
 
 /// Both operations on an image that may be damaged, within and out of range.
@@ -94,7 +97,7 @@ fn large_drafts() -> Vec<Draft> {
 }
 
 #[test]
-fn every_input_of_large_images() {
+fn inputs_of_large_images() {
     let table = common::all_different(12);
     for draft in large_drafts() {
         let image = draft.bytes();

@@ -2,6 +2,7 @@
 use Prim.Native.Nat.{_<_}
 use native.Mathlib.Omega.{arith}
 use mir.Facts.{fits-of-lt}
+use borrow.Author.Needs.{needs}
 use Rattle.numbers.specs.Ranges.{mostVariables}
 use Rattle.numbers.specs.Laws.Pieces.{shifted-one}
 use Rattle.image.specs.Bounds.{CellFits, mostBits}
@@ -10,7 +11,6 @@ use Rattle.image.specs.Reader.{placeAfter}
 use Rattle.image.specs.WellFormed.{KeepsShape}
 use Rattle.image.specs.Laws.Bounds.{cell-bits-most, cell-fits, words-most}
 use Rattle.image.specs.Laws.Rules.{shape-facts}
-use borrow.Author.Needs.{needs}
 use Rattle.image.proofs.after_cell.Statement.{statement}
 use Rattle.image.proofs.after_cell.Tie as tie
 

@@ -1,6 +1,6 @@
 -- `image::after_end` meets its contract. Assumes nothing.
-use borrow.Author.Needs.{needs}
 use mir.Facts.{toZ-ofZ}
+use borrow.Author.Needs.{needs}
 use Rattle.image.specs.Reader.{placeAfter}
 use Rattle.image.proofs.after_end.Statement.{statement}
 use Rattle.image.proofs.after_end.Tie as tie

@@ -1,7 +1,7 @@
 -- `image::after_table` meets its contract. Assumes nothing.
 use mathlib.Core.Path.{refl}
-use Rattle.image.specs.Reader.{placeAfter}
 use borrow.Author.Needs.{needs}
+use Rattle.image.specs.Reader.{placeAfter}
 use Rattle.image.proofs.after_table.Statement.{statement}
 use Rattle.image.proofs.after_table.Tie as tie
 

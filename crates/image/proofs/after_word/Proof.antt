@@ -1,12 +1,12 @@
 -- `image::after_word` meets its contract. Assumes nothing.
+use mathlib.Core.Path.{_≡_, _∙_, ap₂}
 use mir.Syntax.{w32}
 use mir.Val.{ofZ, toZ}
+use mir.Facts.{toZ-ofZ}
 use borrow.Author.Needs.{needs}
 use Rattle.numbers.specs.Ranges.{lesser, greater}
 use Rattle.image.specs.Laws.Due.{words-due}
 use Rattle.image.specs.Kinds.{kindOf}
-use mathlib.Core.Path.{_≡_, _∙_, ap₂}
-use mir.Facts.{toZ-ofZ}
 use Rattle.image.specs.Reader.{placeAfter}
 use Rattle.image.proofs.after_word.Statement.{statement}
 use Rattle.image.proofs.after_word.Tie as tie

@@ -1,7 +1,7 @@
 -- `image::cell_at` meets its contract, operand by operand. Assumes nothing.
+use borrow.Author.Needs.{needs}
 use Rattle.image.specs.Kinds.{widthOf}
 use Rattle.image.specs.Reader.{commandAt}
-use borrow.Author.Needs.{needs}
 use Rattle.image.proofs.cell_at.Statement.{statement}
 use Rattle.image.proofs.cell_at.Tie as tie
 

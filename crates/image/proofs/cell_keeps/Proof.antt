@@ -7,11 +7,11 @@ use native.Mathlib.Omega.{arith}
 use lib.Dec.{leb}
 use mir.Facts.{fits-of-lt}
 use borrow.Author.Tests.{lt-leb, ne-eqb, le-ltb}
+use borrow.Author.Needs.{needs}
 use Rattle.numbers.specs.Ranges.{mostVariables, widestAddress}
 use Rattle.numbers.specs.Laws.Widths.{rail-width-least}
 use Rattle.image.specs.Reader.{keepsRules, mostClasses}
 use Rattle.image.specs.Laws.Rules.{shape-decides}
-use borrow.Author.Needs.{needs}
 use Rattle.image.proofs.cell_keeps.Statement.{statement}
 use Rattle.image.proofs.cell_keeps.Tie as tie
 

@@ -1,12 +1,12 @@
 -- `image::check` meets its contract. The loop's invariant: the steps from the place on decide. Assumes nothing.
-use Rattle.numbers.specs.Answers.{accepted}
-use Rattle.image.specs.declared.Command.{Command}
-use Rattle.image.specs.declared.Place.{Place}
-use borrow.Author.Needs.{needs}
 use Prim.Native.Nat.{_-_}
 use mathlib.Core.Path.{_≡_, sym, _∙_, ap, subst}
 use native.Mathlib.Omega.{arith}
 use lib.ListN.{length}
+use borrow.Author.Needs.{needs}
+use Rattle.numbers.specs.Answers.{accepted}
+use Rattle.image.specs.declared.Command.{Command}
+use Rattle.image.specs.declared.Place.{Place}
 use Rattle.image.specs.Bounds.{AreBytes}
 use Rattle.image.specs.Kinds.{checked}
 use Rattle.image.specs.Reader.{step, stepped}

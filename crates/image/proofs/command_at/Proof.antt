@@ -2,10 +2,10 @@
 use mathlib.Core.Path.{_∙_, ap, ap₂}
 use native.Mathlib.Omega.{arith}
 use mir.Facts.{toZ-ofZ}
+use borrow.Author.Needs.{needs}
 use Rattle.image.specs.Kinds.{dueOf, widthOf}
 use Rattle.image.specs.Reader.{dueSize, commandAt}
 use Rattle.image.specs.declared.Command.the-variants.{Table, Word, End}
-use borrow.Author.Needs.{needs}
 use Rattle.image.proofs.command_at.Statement.{statement}
 use Rattle.image.proofs.command_at.Tie as tie
 

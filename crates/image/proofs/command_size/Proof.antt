@@ -1,6 +1,6 @@
 -- `image::command_size` meets its contract, kind by kind. Assumes nothing.
-use borrow.Author.Needs.{needs}
 use mathlib.Core.Path.{sym, ap}
+use borrow.Author.Needs.{needs}
 use Rattle.image.specs.Kinds.{dueOf}
 use Rattle.image.specs.Reader.{dueSize}
 use Rattle.image.proofs.command_size.Statement.{statement}

@@ -1,6 +1,6 @@
 -- `image::ends_well` meets its contract. Assumes nothing.
-use borrow.Author.Needs.{needs}
 use mathlib.Core.Path.{sym, _∙_}
+use borrow.Author.Needs.{needs}
 use Rattle.image.specs.Laws.Due.{ends-well-last, ends-well-before}
 use Rattle.image.proofs.ends_well.Statement.{statement}
 use Rattle.image.proofs.ends_well.Tie as tie

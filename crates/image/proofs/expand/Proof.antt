@@ -1,10 +1,10 @@
 -- `image::expand` meets its contract. Assumes nothing.
 use mathlib.Core.Path.{sym, _∙_, ap}
 use lib.ListN.{length}
+use borrow.Author.Needs.{needs}
 use Rattle.image.specs.Kinds.{checked}
 use Rattle.image.specs.Laws.Reading.{done}
 use Rattle.image.specs.Laws.Running.{check-refuses, check-accepts, expand-refused, expands-refused}
-use borrow.Author.Needs.{needs}
 use Rattle.image.proofs.expand.Statement.{statement}
 use Rattle.image.proofs.expand.Tie as tie
 

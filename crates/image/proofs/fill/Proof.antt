@@ -1,14 +1,14 @@
 -- `image::fill` meets its contract. The loop's invariant: the first x values are written, the rest is as it was. Assumes nothing.
-use mir.Syntax.{w32}
-use mir.Val.{toZ, ofZ}
-use mir.Facts.{toZ-ofZ, fits-of-lt}
-use Rattle.image.specs.Evaluation.{resultOf, cardRead}
-use Rattle.image.specs.Run.{runCard}
 use Prim.Native.Nat.{_-_, _<_}
 use mathlib.Core.Path.{_≡_, _∙_, ap}
 use native.Mathlib.Omega.{arith}
-use borrow.Author.Needs.{scaled-fits}
 use lib.ListN.{length}
+use mir.Syntax.{w32}
+use mir.Val.{toZ, ofZ}
+use mir.Facts.{toZ-ofZ, fits-of-lt}
+use borrow.Author.Needs.{scaled-fits}
+use Rattle.image.specs.Evaluation.{resultOf, cardRead}
+use Rattle.image.specs.Run.{runCard}
 use Rattle.image.specs.Laws.Running.{Filled, filled-none, filled-more, filled-all}
 use Rattle.image.proofs.fill.Statement.{statement}
 use Rattle.image.proofs.fill.Tie as tie

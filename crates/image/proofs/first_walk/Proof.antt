@@ -1,8 +1,8 @@
 -- `image::first_walk` meets its contract. Assumes nothing.
 use mir.Facts.{toZ-ofZ}
 use mir.Syntax.{w32}
-use Rattle.image.specs.Evaluation.{firstWalk}
 use borrow.Author.Needs.{needs}
+use Rattle.image.specs.Evaluation.{firstWalk}
 use Rattle.image.proofs.first_walk.Statement.{statement}
 use Rattle.image.proofs.first_walk.Tie as tie
 

@@ -2,9 +2,9 @@
 use Prim.Native.Nat.{_-_}
 use native.Mathlib.Omega.{arith}
 use lib.Pow.{pow-pos}
+use borrow.Author.Needs.{needs}
 use Rattle.numbers.specs.Laws.Pieces.{shifted-one}
 use Rattle.image.specs.Run.{groupValue}
-use borrow.Author.Needs.{needs}
 use Rattle.image.proofs.group_value.Statement.{statement}
 use Rattle.image.proofs.group_value.Tie as tie
 

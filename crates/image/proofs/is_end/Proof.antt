@@ -1,7 +1,7 @@
 -- `image::is_end` meets its contract, command by command. Assumes nothing.
 use mathlib.Core.Path.{sym, ap}
-use Rattle.image.specs.Kinds.{isEnd}
 use borrow.Author.Needs.{needs}
+use Rattle.image.specs.Kinds.{isEnd}
 use Rattle.image.proofs.is_end.Statement.{statement}
 use Rattle.image.proofs.is_end.Tie as tie
 

@@ -1,6 +1,6 @@
 -- `image::judge` meets its contract. Assumes nothing.
-use borrow.Author.Needs.{needs}
 use mathlib.Core.Path.{sym, _∙_}
+use borrow.Author.Needs.{needs}
 use Rattle.image.specs.Reader.{judged, stepped}
 use Rattle.image.proofs.judge.Statement.{statement}
 use Rattle.image.proofs.judge.Tie as tie

@@ -1,10 +1,10 @@
 -- `image::keeps_rules` meets its contract, command by command. Assumes nothing.
 use mathlib.Core.Bool.{_&&_}
-use Rattle.numbers.specs.Ranges.{isVariables, isValue}
-use Rattle.image.specs.declared.Command.the-variants.{Word}
-use borrow.Author.Needs.{needs}
 use mathlib.Core.Path.{sym, _∙_, ap}
 use mir.Facts.{toZ-ofZ}
+use borrow.Author.Needs.{needs}
+use Rattle.numbers.specs.Ranges.{isVariables, isValue}
+use Rattle.image.specs.declared.Command.the-variants.{Word}
 use Rattle.image.specs.Reader.{keepsRules}
 use Rattle.image.proofs.keeps_rules.Statement.{statement}
 use Rattle.image.proofs.keeps_rules.Tie as tie

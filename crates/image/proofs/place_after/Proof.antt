@@ -1,10 +1,10 @@
 -- `image::place_after` meets its contract, command by command. Assumes nothing.
 use mathlib.Core.Path.{sym, _∙_, ap, subst}
 use mir.Facts.{toZ-ofZ}
+use borrow.Author.Needs.{needs}
 use Rattle.image.specs.Bounds.{Follows}
 use Rattle.image.specs.Reader.{placeAfter}
 use Rattle.image.specs.declared.Command.the-variants.{Table, Word}
-use borrow.Author.Needs.{needs}
 use Rattle.image.proofs.place_after.Statement.{statement}
 use Rattle.image.proofs.place_after.Tie as tie
 

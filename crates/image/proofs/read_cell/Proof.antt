@@ -1,14 +1,14 @@
 -- `image::read_cell` meets its contract. Assumes nothing.
-use borrow.Author.Needs.{needs}
 use Prim.Native.Nat.{_+_, _*_, _%_, _^_, _≤_}
 use mathlib.Core.Path.{_≡_, _∙_, ap, ap₂}
 use native.Mathlib.Omega.{arith}
 use lib.ListN.{length}
-use mir.Facts.{fits-of-lt, toZ-ofZ}
-use Rattle.numbers.specs.Ranges.{mostVariables}
 use lib.IntN.{_+ℤ_}
+use mir.Facts.{fits-of-lt, toZ-ofZ}
 use mir.Syntax.{w32}
 use mir.Val.{toZ, ofZ}
+use borrow.Author.Needs.{needs}
+use Rattle.numbers.specs.Ranges.{mostVariables}
 use Rattle.image.specs.Bytes.{unsignedAt, signedAt}
 use Rattle.image.specs.Evaluation.{groupAhead, wordPlace, nextPlace, cellRead}
 use Rattle.image.specs.Laws.Evaluating.{command-room, group-narrow, group-size}
@@ -26,19 +26,20 @@ room : (s : tie.Start) → s .args .walk .at + 7 ≤ length (s .args .image .now
 room s = command-room (s .args .image .now) (s .args .x) (s .args .walk) (s .pre)
 
 -- The next cell begins within the image.
-inside : (c : tie.After-read-two)
-    → c .before .before .before .args .walk .at + 7 + 7 * (c .read-two .result * 2 ^ groupAhead (c .before .before .before .args .image .now) (c .before .before .before .args .walk)) ≤ length (c .before .before .before .args .image .now)
+inside : (c : tie.After-read-two) → (let s = c .before .before .before in s .args .walk .at + 7 + 7 * (c .read-two .result * 2 ^ groupAhead (s .args .image .now) (s .args .walk)) ≤ length (s .args .image .now))
 unfolding nextPlace
 inside c = rw (c .read-two .ensures .read) (c .before .before .before .pre .next)
 
 -- The sum, with the weight of the word that was read.
 total : (c : tie.After-struct-told)
-    → toZ w32 (ofZ w32 (c .before .before .before .before .before .before .before .before .before .args .walk .value)) +ℤ toZ w32 (ofZ w32 (c .before .before .before .read-signed .result))
-    ≡ c .before .before .before .before .before .before .before .before .before .args .walk .value +ℤ signedAt (c .before .before .before .before .before .before .before .before .before .args .image .now) (wordPlace (c .before .before .before .before .before .before .before .before .before .args .image .now) (c .before .before .before .before .before .before .before .before .before .args .x) (c .before .before .before .before .before .before .before .before .before .args .walk) + 3)
+    → (let s = c .before .before .before .before .before .before .before .before .before in
+    toZ w32 (ofZ w32 (s .args .walk .value)) +ℤ toZ w32 (ofZ w32 (c .before .before .before .read-signed .result)) ≡ s .args .walk .value +ℤ signedAt (s .args .image .now) (wordPlace (s .args .image .now) (s .args .x) (s .args .walk) + 3))
 total c =
+    let s = c .before .before .before .before .before .before .before .before .before in
+    let read = c .before .before .before .read-signed in
     ap₂ _+ℤ_
-    (toZ-ofZ {w = w32} {z = c .before .before .before .before .before .before .before .before .before .args .walk .value} (record { sfits = c .struct-told .given .1 .1 .1 .0 .1 }))
-    (toZ-ofZ {w = w32} {z = c .before .before .before .read-signed .result} (record { sfits = c .before .before .before .read-signed .ok }) ∙ c .before .before .before .read-signed .ensures ∙ ap (λ n. signedAt (c .before .before .before .before .before .before .before .before .before .args .image .now) (n + 3)) (c .before .before .before .before .before .word-place .ensures))
+    (toZ-ofZ {w = w32} {z = s .args .walk .value} (record { sfits = c .struct-told .given .1 .1 .1 .0 .1 }))
+    (toZ-ofZ {w = w32} {z = read .result} (record { sfits = read .ok }) ∙ read .ensures ∙ ap (λ n. signedAt (s .args .image .now) (n + 3)) (c .before .before .before .before .before .word-place .ensures))
 
 add-read-one : tie.Need-add-read-one
 add-read-one c = fits-of-lt (let r = room (c .before) in let g = c .before .good .0 .1 in omega arith)

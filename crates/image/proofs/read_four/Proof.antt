@@ -2,8 +2,8 @@
 use Prim.Native.Nat.{_+_, _*_}
 use mathlib.Core.Path.{sym, _∙_, ap₂}
 use native.Mathlib.Omega.{arith}
-use Rattle.image.specs.Laws.Operands.{unsigned-four}
 use borrow.Author.Needs.{needs}
+use Rattle.image.specs.Laws.Operands.{unsigned-four}
 use Rattle.image.proofs.read_four.Statement.{statement}
 use Rattle.image.proofs.read_four.Tie as tie
 

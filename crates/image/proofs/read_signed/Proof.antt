@@ -3,9 +3,9 @@ use mathlib.Core.Path.{_∙_, ap}
 use mir.Syntax.{w32}
 use mir.Val.{toZ}
 use mir.Facts.{toZ-ofZ}
+use borrow.Author.Needs.{needs}
 use Rattle.image.specs.Bytes.{signedAt}
 use Rattle.image.specs.Laws.Operands.{signed-upper, signed-upper-fits}
-use borrow.Author.Needs.{needs}
 use Rattle.image.proofs.read_signed.Statement.{statement}
 use Rattle.image.proofs.read_signed.Tie as tie
 

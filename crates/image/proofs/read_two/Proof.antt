@@ -2,8 +2,8 @@
 use Prim.Native.Nat.{_+_, _*_}
 use mathlib.Core.Path.{sym, _∙_, ap₂}
 use native.Mathlib.Omega.{arith}
-use Rattle.image.specs.Laws.Operands.{unsigned-two}
 use borrow.Author.Needs.{needs}
+use Rattle.image.specs.Laws.Operands.{unsigned-two}
 use Rattle.image.proofs.read_two.Statement.{statement}
 use Rattle.image.proofs.read_two.Tie as tie
 

@@ -1,10 +1,10 @@
 -- `image::run` meets its contract. Assumes nothing.
 use mathlib.Core.Path.{sym, _∙_, ap}
+use borrow.Author.Needs.{needs}
 use Rattle.image.specs.Kinds.{checked}
 use Rattle.image.specs.Run.{ran}
 use Rattle.image.specs.Laws.Reading.{done}
 use Rattle.image.specs.Laws.Running.{check-refuses, check-accepts, run-refused}
-use borrow.Author.Needs.{needs}
 use Rattle.image.proofs.run.Statement.{statement}
 use Rattle.image.proofs.run.Tie as tie
 

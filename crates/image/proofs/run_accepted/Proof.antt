@@ -1,14 +1,14 @@
 -- `image::run_accepted` meets its contract. Assumes nothing.
 use Prim.Native.Nat.{_*_, _%_, _^_}
+use mathlib.Core.Path.{_≡_, sym, _∙_, ap}
 use mir.Syntax.{w32}
 use mir.Facts.{toZ-ofZ}
+use borrow.Author.Needs.{needs}
 use Rattle.numbers.specs.Answers.{accepted}
 use Rattle.image.specs.Evaluation.{cardRead, resultOf}
 use Rattle.image.specs.Run.{ran}
 use Rattle.image.specs.Laws.Evaluating.{variables-narrow, variables-size}
 use Rattle.image.specs.Laws.Running.{run-late, run-value}
-use borrow.Author.Needs.{needs}
-use mathlib.Core.Path.{_≡_, sym, _∙_, ap}
 use Rattle.image.proofs.run_accepted.Statement.{statement}
 use Rattle.image.proofs.run_accepted.Tie as tie
 

@@ -4,8 +4,8 @@ use mathlib.Core.Bool.{and-false}
 use lib.IntN.{pos, negℤ}
 use mir.Facts.{toZ-ofZ}
 use borrow.Author.Tests.{le-leb, lt-leb}
-use Rattle.numbers.specs.Ranges.{isVariables, mostVariables, isValue, within}
 use borrow.Author.Needs.{needs}
+use Rattle.numbers.specs.Ranges.{isVariables, mostVariables, isValue, within}
 use Rattle.image.proofs.table_keeps.Statement.{statement}
 use Rattle.image.proofs.table_keeps.Tie as tie
 

@@ -1,9 +1,9 @@
 -- `image::width_is_least` meets its contract. Assumes nothing.
-use borrow.Author.Needs.{needs}
 use mathlib.Core.Path.{_∙_, ap, ap₂}
 use mathlib.Core.List.{[], _∷_}
 use lib.Dec.{eqb}
 use mir.Facts.{toZ-ofZ}
+use borrow.Author.Needs.{needs}
 use borrow.Author.Tests.{lt-ltb, le-ltb}
 use Rattle.numbers.specs.Widths.{weightWidth}
 use Rattle.image.specs.Reader.{widthIsLeast}

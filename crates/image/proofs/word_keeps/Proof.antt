@@ -9,6 +9,7 @@ use mir.Syntax.{w32}
 use mir.Val.{ofZ}
 use mir.Facts.{toZ-ofZ, sfits-lit}
 use borrow.Author.Tests.{le-ltb}
+use borrow.Author.Needs.{needs}
 use Rattle.numbers.specs.Ranges.{mostVariables, isWeight, within}
 use Rattle.numbers.specs.Laws.Machine.{same-bits}
 use Rattle.numbers.specs.Laws.Pieces.{shifted-one}
@@ -16,7 +17,6 @@ use Rattle.image.specs.Bounds.{WithinBounds}
 use Rattle.image.specs.Reader.{keepsRules}
 use Rattle.image.specs.Laws.Rules.{word-decides, word-ungrounded}
 use Rattle.image.specs.declared.Place.{Place}
-use borrow.Author.Needs.{needs}
 use Rattle.image.proofs.word_keeps.Statement.{statement}
 use Rattle.image.proofs.word_keeps.Tie as tie
 

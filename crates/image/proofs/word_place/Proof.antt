@@ -21,15 +21,14 @@ size c = let s = c .before .before in group-size (s .args .image .now) (s .args 
 room : (s : tie.Start) → s .args .walk .at + 7 ≤ length (s .args .image .now)
 room s = command-room (s .args .image .now) (s .args .x) (s .args .walk) (s .pre)
 
-value : (c : tie.After-group-value) → c .group-value .result ≡ groupValue (c .before .before .before .args .walk .left) (groupAhead (c .before .before .before .args .image .now) (c .before .before .before .args .walk)) (c .before .before .before .args .x)
-value c = c .group-value .ensures ∙ ap (λ g. groupValue (c .before .before .before .args .walk .left) g (c .before .before .before .args .x)) (is-group (c .before))
+value : (c : tie.After-group-value) → (let s = c .before .before .before in c .group-value .result ≡ groupValue (s .args .walk .left) (groupAhead (s .args .image .now) (s .args .walk)) (s .args .x))
+value c = let s = c .before .before .before in c .group-value .ensures ∙ ap (λ g. groupValue (s .args .walk .left) g (s .args .x)) (is-group (c .before))
 
 -- The word lies within the image.
-inside : (c : tie.After-struct-known)
-    → c .before .before .before .before .args .walk .at + 7 + 7 * (c .before .before .before .before .args .walk .class * 2 ^ groupAhead (c .before .before .before .before .args .image .now) (c .before .before .before .before .args .walk) + groupValue (c .before .before .before .before .args .walk .left) (groupAhead (c .before .before .before .before .args .image .now) (c .before .before .before .before .args .walk)) (c .before .before .before .before .args .x)) + 7
-    ≤ length (c .before .before .before .before .args .image .now)
+inside : (s : tie.Start)
+    → (let group = groupAhead (s .args .image .now) (s .args .walk) in s .args .walk .at + 7 + 7 * (s .args .walk .class * 2 ^ group + groupValue (s .args .walk .left) group (s .args .x)) + 7 ≤ length (s .args .image .now))
 unfolding wordPlace
-inside c = c .before .before .before .before .pre .word
+inside s = s .pre .word
 
 add-read-one : tie.Need-add-read-one
 add-read-one c = fits-of-lt (let r = room (c .before) in let g = c .before .good .0 .1 in omega arith)
@@ -48,16 +47,16 @@ shl-result : tie.Need-shl-result
 shl-result c = let d = c .before in let s = d .before .before in group-narrow (s .args .image .now) (s .args .x) (s .args .walk) (s .pre) (d .read-one .result) (is-group d)
 
 mul-result : tie.Need-mul-result
-mul-result c = rw (size (c .before .before)) (fits-of-lt (let h = inside c in let g = c .before .before .before .before .good .0 .1 in omega arith))
+mul-result c = rw (size (c .before .before)) (fits-of-lt (let h = inside (c .before .before .before .before) in let g = c .before .before .before .before .good .0 .1 in omega arith))
 
 add-result-2 : tie.Need-add-result-2
-add-result-2 c = rw (size (c .before .before), value (c .before)) (fits-of-lt (let h = inside c in let g = c .before .before .before .before .good .0 .1 in omega arith))
+add-result-2 c = rw (size (c .before .before), value (c .before)) (fits-of-lt (let h = inside (c .before .before .before .before) in let g = c .before .before .before .before .good .0 .1 in omega arith))
 
 mul-result-2 : tie.Need-mul-result-2
-mul-result-2 c = rw (size (c .before .before), value (c .before)) (fits-of-lt (let h = inside c in let g = c .before .before .before .before .good .0 .1 in omega arith))
+mul-result-2 c = rw (size (c .before .before), value (c .before)) (fits-of-lt (let h = inside (c .before .before .before .before) in let g = c .before .before .before .before .good .0 .1 in omega arith))
 
 add-result-3 : tie.Need-add-result-3
-add-result-3 c = rw (size (c .before .before), value (c .before)) (fits-of-lt (let h = inside c in let g = c .before .before .before .before .good .0 .1 in omega arith))
+add-result-3 c = rw (size (c .before .before), value (c .before)) (fits-of-lt (let h = inside (c .before .before .before .before) in let g = c .before .before .before .before .good .0 .1 in omega arith))
 
 returns : tie.Need-returns
 unfolding wordPlace

@@ -1,7 +1,7 @@
 // The reduced edge-valued decision diagram of a table: Build and Walk.
 ghost use mathlib.Core.Path.{_≡_};
 ghost use mathlib.Core.Bool.{true, not, _&&_};
-ghost use Prim.Native.Nat.{ℕ, suc, _+_, _-_, _*_, _^_, _≤_, _<_};
+ghost use Prim.Native.Nat.{suc, _+_, _-_, _*_, _^_, _≤_, _<_};
 ghost use lib.ListN.{length, getD, set};
 ghost use lib.Dec.{eqb};
 ghost use lib.IntN.{pos, _-ℤ_};
@@ -146,9 +146,9 @@ fn list_fits(n: usize, records: &[i32]) -> bool
 }
 
 // What reading a variable at a node gives: a weight, and the next node.
-pub struct Edge {
-    pub weight: i32,
-    pub node: usize,
+struct Edge {
+    weight: i32,
+    node: usize,
 }
 
 // The edge that X takes from node k at variable i, or none where k is node 0 or a record of another variable.
@@ -257,11 +257,11 @@ fn halves_differ(low: usize, high: usize, weight: i32) -> bool
 }
 
 // What Build learns of a class: the nodes of its halves, its weight, and whether it branches.
-pub struct Fork {
-    pub low: usize,
-    pub high: usize,
-    pub weight: i32,
-    pub branching: bool,
+struct Fork {
+    low: usize,
+    high: usize,
+    weight: i32,
+    branching: bool,
 }
 
 // The fork of class c of cut h, read at the class's first block.

@@ -1,5 +1,5 @@
 -- `diagram::build` meets its contract. Assumes nothing.
-use mathlib.Core.Path.{_≡_, sym, _∙_, ap}
+use mathlib.Core.Path.{sym, _∙_, ap}
 use borrow.Author.Needs.{needs}
 use Rattle.diagram.specs.Build.{checked}
 use Rattle.diagram.specs.Laws.Builds.{passed-table, build-unfit}

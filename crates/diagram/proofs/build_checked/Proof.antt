@@ -1,15 +1,13 @@
 -- `diagram::build_checked` meets its contract. Assumes nothing.
-use Prim.Native.Nat.{suc, _+_, _-_, _^_, _≤_, _<_}
+use Prim.Native.Nat.{suc, _+_, _-_, _^_, _≤_}
 use mathlib.Core.Path.{_≡_, sym, _∙_, ap}
 use native.Mathlib.Numerals.{add-one}
 use native.Mathlib.Omega.{arith}
-use lib.ListN.{length}
 use lib.Seq.{length-take-le}
 use lib.Pow.{pow-pos, pow-mono}
 use mir.Facts.{toZ-ofZ}
 use borrow.Author.Needs.{needs, sfits-of}
 use Rattle.blocks.specs.Layout.{cutPlace}
-use Rattle.diagram.specs.Build.{nodeRoom}
 use Rattle.diagram.specs.Laws.Builds.{build-short, build-done}
 use Rattle.diagram.specs.Laws.Checks.{variables-range}
 use Rattle.diagram.specs.Laws.Numbering.{records-room}

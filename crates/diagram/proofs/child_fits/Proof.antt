@@ -1,7 +1,7 @@
 -- `diagram::child_fits` meets its contract. Assumes nothing.
-use Prim.Native.Nat.{_-_, _≤_}
+use Prim.Native.Nat.{_-_}
 use mathlib.Core.Path.{_≡_, sym, _∙_, ap, ap₂}
-use mathlib.Core.Bool.{true, false}
+use mathlib.Core.Bool.{true}
 use native.Mathlib.Omega.{arith}
 use lib.IntN.{pos, natAbs}
 use lib.Signed.{ltZ}
@@ -13,7 +13,6 @@ use Rattle.numbers.specs.Ranges.{within}
 use Rattle.numbers.specs.Laws.Machine.{same-bits}
 use Rattle.diagram.specs.Records.{recordSize}
 use Rattle.diagram.specs.Walk.{childFits, variableAt}
-use Rattle.diagram.specs.Edges.{Recorded}
 use Rattle.diagram.specs.Laws.Checks.{counted, cast-natural, child-outside, child-terminal, child-record, child-recorded}
 use Rattle.diagram.proofs.child_fits.Statement.{statement}
 use Rattle.diagram.proofs.child_fits.Tie as tie

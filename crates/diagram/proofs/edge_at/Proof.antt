@@ -1,9 +1,8 @@
 -- `diagram::edge_at` meets its contract. Assumes nothing.
-use Prim.Native.Nat.{_+_, _/_, _%_, _^_, _≤_}
+use Prim.Native.Nat.{_/_, _%_, _^_, _≤_}
 use mathlib.Core.Path.{_≡_, sym, _∙_, ap, ap₂}
-use mathlib.Core.Bool.{true, false}
 use native.Mathlib.Omega.{arith}
-use lib.IntN.{ℤ, pos, natAbs}
+use lib.IntN.{pos, natAbs}
 use mir.Syntax.{w32}
 use mir.Val.{ofZ}
 use mir.Facts.{toZ-ofZ}
@@ -13,7 +12,6 @@ use Rattle.numbers.specs.Laws.Machine.{same-bits}
 use Rattle.diagram.specs.Records.{recordSize}
 use Rattle.diagram.specs.Walk.{variableAt, lowAt, highAt, weightAt, bitSet}
 use Rattle.diagram.specs.Edges.{Recorded}
-use Rattle.diagram.specs.declared.Edge.{Edge}
 use Rattle.diagram.specs.Laws.Checks.{cast-natural, child-node}
 use Rattle.diagram.specs.Laws.Edges.{edge-none, edge-later, edge-high, edge-low}
 use Rattle.diagram.proofs.edge_at.Statement.{statement}

@@ -1,6 +1,6 @@
 -- `diagram::first_of_block` meets its contract. Assumes nothing.
-use Prim.Native.Nat.{_+_, _*_, _^_, _<_}
-use mathlib.Core.Path.{_≡_, sym, _∙_, ap}
+use Prim.Native.Nat.{_*_, _^_, _<_}
+use mathlib.Core.Path.{sym, _∙_, ap}
 use native.Mathlib.Nat.{add-zero}
 use native.Mathlib.Omega.{arith}
 use lib.ListN.{length, getD}

@@ -1,8 +1,6 @@
 -- `diagram::halves_differ` meets its contract. Assumes nothing.
-use mathlib.Core.Path.{_≡_, refl, sym, _∙_, ap}
+use mathlib.Core.Path.{ap}
 use mathlib.Core.Bool.{not}
-use lib.Dec.{eqb}
-use lib.IntN.{pos}
 use borrow.Author.Tests.{eq-eqb, ne-eqb}
 use Rattle.diagram.specs.Laws.Checks.{zero-bits}
 use Rattle.diagram.proofs.halves_differ.Statement.{statement}

@@ -1,6 +1,4 @@
 -- `diagram::is_variables` meets its contract. Assumes nothing.
-use mathlib.Core.Path.{_≡_, sym}
-use lib.Dec.{leb}
 use borrow.Author.Tests.{le-leb, lt-leb}
 use Rattle.numbers.specs.Ranges.{isVariables, mostVariables}
 use Rattle.diagram.proofs.is_variables.Statement.{statement}

@@ -1,6 +1,6 @@
 -- `diagram::node_room` meets its contract. Assumes nothing.
 use Prim.Native.Nat.{_-_, _*_}
-use mathlib.Core.Path.{_≡_, ap}
+use mathlib.Core.Path.{ap}
 use native.Mathlib.Omega.{arith}
 use lib.Pow.{pow-pos, pow-mono}
 use borrow.Author.Needs.{needs}

@@ -1,6 +1,5 @@
 -- `diagram::number_at` meets its contract: the numbers of record k are among those of the list. Assumes nothing.
 use Prim.Native.Nat.{_+_, _-_, _*_, _<_}
-use mathlib.Core.Path.{_≡_}
 use native.Mathlib.Omega.{arith}
 use lib.ListN.{length}
 use mir.Facts.{toZ-ofZ}

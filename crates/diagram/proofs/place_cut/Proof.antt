@@ -1,6 +1,5 @@
 -- `diagram::place_cut` meets its contract. The loop's invariant: the classes before c are placed. Assumes nothing.
-use Prim.Native.Nat.{_+_, _-_, _<_}
-use mathlib.Core.Path.{_≡_}
+use Prim.Native.Nat.{_-_, _<_}
 use native.Mathlib.Omega.{arith}
 use Rattle.blocks.specs.Classes.{classCount}
 use Rattle.diagram.specs.Laws.CutRecords.{CutSoFar, cut-start, row-length, nodes-kept, cut-forking, cut-record-room, cut-next, cut-done}

@@ -1,7 +1,6 @@
 -- `diagram::record_fits` meets its contract, test by test. Assumes nothing.
 use Prim.Native.Nat.{_-_}
 use mathlib.Core.Path.{_≡_, sym, _∙_, ap}
-use mathlib.Core.Bool.{true}
 use native.Mathlib.Omega.{arith}
 use lib.IntN.{pos, negℤ}
 use mir.Facts.{toZ-ofZ}

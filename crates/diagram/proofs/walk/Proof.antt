@@ -1,13 +1,13 @@
 -- `diagram::walk` meets its contract: its checks in their order, then the value. Assumes nothing.
 use Prim.Native.Nat.{_^_}
-use mathlib.Core.Path.{_≡_, refl, sym, _∙_, ap}
-use mathlib.Core.Bool.{Bool, true}
+use mathlib.Core.Path.{_≡_, sym, _∙_, ap}
+use mathlib.Core.Bool.{true}
 use native.Mathlib.Omega.{arith}
 use lib.Dec.{ltb}
 use lib.IntN.{pos, negℤ}
 use mir.Facts.{toZ-ofZ}
 use borrow.Author.Needs.{needs, sfits-of}
-use borrow.Author.Tests.{not-true, not-false, lt-ltb, le-ltb}
+use borrow.Author.Tests.{not-true, not-false}
 use Rattle.numbers.specs.Answers.{accepted}
 use Rattle.numbers.specs.Ranges.{isVariables, isValue, within}
 use Rattle.diagram.specs.Walk.{listFits, walkValue, walk, walked}

@@ -1,6 +1,6 @@
 -- `diagram::walk_value` meets its contract. The loop's invariant: the value and the path from node k on make the whole, and the value fits. Assumes nothing.
 use Prim.Native.Nat.{_-_}
-use mathlib.Core.Path.{_≡_, sym, _∙_, ap}
+use mathlib.Core.Path.{sym, _∙_, ap}
 use native.Mathlib.Omega.{arith}
 use lib.IntN.{ℤ, _+ℤ_}
 use mir.Syntax.{w32}

@@ -1,7 +1,7 @@
 -- The heights from the bottom up: what the buffer holds when the records of the variables below i are written.
-use Prim.Native.Nat.{ℕ, zero, suc, _+_, _-_, _*_, _^_, _≤_, _<_}
-use mathlib.Core.Path.{_≡_, refl, sym, _∙_, ap, ap₂, subst}
-use mathlib.Core.List.{List, [], _∷_, _++_, map, flatMap, append-nil}
+use Prim.Native.Nat.{ℕ, suc, _+_, _-_, _*_, _≤_, _<_}
+use mathlib.Core.Path.{_≡_, refl, sym, _∙_, ap, ap₂}
+use mathlib.Core.List.{List, [], _∷_, _++_, flatMap, append-nil}
 use native.Mathlib.Nat.{zero-add, sub-self, sub-zero}
 use native.Mathlib.Numerals.{add-one}
 use native.Mathlib.Omega.{arith}
@@ -12,12 +12,11 @@ use Rattle.numbers.specs.Lists.{range, overwritten}
 use Rattle.numbers.specs.Laws.Lists.{range-suc}
 use Rattle.numbers.specs.Laws.Overwriting.{length-overwritten}
 use Rattle.numbers.specs.Laws.Rows.{overwritten-none, overwritten-more}
-use Rattle.numbers.specs.Laws.Selections.{flatMap-append, length-flatMap}
-use Rattle.blocks.specs.Classes.{classCount}
+use Rattle.numbers.specs.Laws.Selections.{flatMap-append}
 use Rattle.blocks.specs.Layout.{cutPlace}
 use Rattle.blocks.specs.Laws.Classes.{class-count-le}
 use Rattle.diagram.specs.Build.{nodeRoom}
-use Rattle.diagram.specs.Records.{recordsBelow, node, Record, recordsAt, records, recordNumbers, recordSize}
+use Rattle.diagram.specs.Records.{recordsBelow, node, recordsAt, records, recordNumbers, recordSize}
 use Rattle.diagram.specs.Building.{classAt, NodesKnown, CutReady, CutRecorded, BuildReady, AllRecorded}
 use Rattle.diagram.specs.Laws.Checks.{variables-range}
 use Rattle.diagram.specs.Laws.CutRecords.{cut-known, numbers-length}

@@ -1,6 +1,6 @@
 -- The kinds of a height are the branching classes of its cut, in their order; and the number of each among them.
 use Prim.Native.Nat.{ℕ, suc, _+_, _-_, _≤_, _<_}
-use mathlib.Core.Path.{_≡_, refl, sym, _∙_, ap, ap₂}
+use mathlib.Core.Path.{_≡_, refl, sym, _∙_, ap}
 use mathlib.Core.Bool.{Bool, true, false}
 use mathlib.Core.List.{List, [], _∷_, _++_, map, append-nil}
 use native.Mathlib.Omega.{arith}
@@ -13,7 +13,7 @@ use Rattle.numbers.specs.Laws.Rows.{keep-append, keep-one, keep-other, kept-at,
 use Rattle.numbers.specs.Laws.Selections.{keep-passed, keep-failed, kept-from, passed-kept, keep-map}
 use Rattle.blocks.specs.Blocks.{blocks, differences}
 use Rattle.blocks.specs.Classes.{numberIn, learn, learnAll, distinct, classes}
-use Rattle.blocks.specs.Laws.Known.{number-at, number-by, number-le, learn-known, learn-new, known-or-new, own-distinct}
+use Rattle.blocks.specs.Laws.Known.{number-at, number-by, learn-known, learn-new, known-or-new, own-distinct}
 use Rattle.diagram.specs.Records.{branches, kinds}
 use Rattle.diagram.specs.Laws.Shifts.{branches-differences}
 

@@ -1,7 +1,6 @@
 -- Build's answer and buffer: refusals in their order, and the records of a table that passes.
-use Prim.Native.Nat.{ℕ, suc, _+_, _*_, _^_, _≤_, _<_}
-use mathlib.Core.Path.{_≡_, refl, sym, _∙_, ap, ap₂}
-use mathlib.Core.Bool.{Bool, true, false}
+use Prim.Native.Nat.{ℕ, suc, _+_, _^_, _≤_, _<_}
+use mathlib.Core.Path.{_≡_, sym, _∙_, ap, ap₂}
 use mathlib.Core.List.{List, flatMap}
 use native.Mathlib.Numerals.{add-one}
 use native.Mathlib.Omega.{arith}
@@ -16,10 +15,9 @@ use Rattle.numbers.specs.Laws.Bools.{yes-or-no}
 use Rattle.numbers.specs.Laws.Rows.{overwritten-front}
 use Rattle.blocks.specs.Blocks.{first}
 use Rattle.diagram.specs.Accepted.{Accepted}
-use Rattle.diagram.specs.Records.{Record, records, recordNumbers, offset, nodeCount}
-use Rattle.diagram.specs.Build.{ofTable, tableChecks, nodeRoom, build, Summary, buildAnswer, buildBuffer, built, Builds}
+use Rattle.diagram.specs.Records.{records, recordNumbers, offset, nodeCount}
+use Rattle.diagram.specs.Build.{ofTable, tableChecks, nodeRoom, build, buildAnswer, buildBuffer, built, Builds}
 use Rattle.diagram.specs.Building.{AllRecorded}
-use Rattle.diagram.specs.declared.Built.{Built}
 use Rattle.diagram.specs.declared.Built.the-variants.{Diagram, Refused}
 
 -- ---- the checks on a table

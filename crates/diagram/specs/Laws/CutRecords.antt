@@ -1,12 +1,12 @@
 -- The classes of a cut placed one by one: what the row of nodes and the buffer hold on the way, and at the end.
-use Prim.Native.Nat.{ℕ, zero, suc, _+_, _-_, _*_, _^_, _≤_, _<_}
-use mathlib.Core.Path.{_≡_, refl, sym, _∙_, ap, ap₂, subst}
-use mathlib.Core.Bool.{Bool, true, false, cond}
+use Prim.Native.Nat.{ℕ, suc, _+_, _-_, _*_, _^_, _≤_, _<_}
+use mathlib.Core.Path.{_≡_, refl, sym, _∙_, ap, ap₂}
+use mathlib.Core.Bool.{true, false, cond}
 use mathlib.Core.List.{List, [], _∷_, _++_, map, flatMap, map-append, append-nil}
 use native.Mathlib.Nat.{mul-add, add-zero}
 use native.Mathlib.Numerals.{add-one}
 use native.Mathlib.Omega.{arith}
-use lib.ListN.{length, getD, take, drop, set, length-map, length-append, length-set, take-append-drop}
+use lib.ListN.{length, getD, take, drop, set, length-map, length-append, take-append-drop}
 use lib.Seq.{take-suc, take-all, length-take-le}
 use lib.Pow.{pow-mono}
 use lib.IntN.{ℤ}
@@ -23,7 +23,7 @@ use Rattle.blocks.specs.Laws.Classes.{class-count-le}
 use Rattle.blocks.specs.Laws.Cuts.{cut-end, cut-within}
 use Rattle.blocks.specs.Laws.Differences.{differences-again}
 use Rattle.diagram.specs.Build.{nodeRoom}
-use Rattle.diagram.specs.Records.{branches, kinds, recordsBelow, node, Record, recordOf, recordsAt, records, recordNumbers, recordSize}
+use Rattle.diagram.specs.Records.{branches, kinds, recordsBelow, node, Record, recordOf, recordsAt, recordNumbers, recordSize}
 use Rattle.diagram.specs.Building.{classAt, NodesKnown, Forking, RecordRoom, ClassPlaced, CutReady, CutRecorded}
 use Rattle.diagram.specs.Laws.BranchingClasses.{kinds-are, kind-below, kind-number}
 use Rattle.diagram.specs.Laws.Checks.{variables-range}

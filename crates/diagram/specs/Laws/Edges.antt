@@ -1,10 +1,10 @@
 -- One variable of a walk: which edge is taken, and what the path from its end adds.
 use Prim.Native.Nat.{ℕ, zero, suc, _+_, _-_, _*_, _%_, _^_, _≤_, _<_}
 use mathlib.Core.Path.{_≡_, refl, sym, _∙_, ap}
-use mathlib.Core.Bool.{Bool, true, false, _&&_}
+use mathlib.Core.Bool.{true, false, _&&_}
 use mathlib.Core.List.{List}
 use native.Mathlib.Omega.{arith}
-use lib.ListN.{length, getD}
+use lib.ListN.{length}
 use lib.Dec.{leb, eqb}
 use lib.IntN.{ℤ, pos, natAbs, _+ℤ_, +ℤ-idl, +ℤ-idr, +ℤ-assoc}
 use lib.Signed.{mag}
@@ -18,7 +18,7 @@ use Rattle.numbers.specs.Laws.Lists.{length-range, getD-range, every-at}
 use Rattle.diagram.specs.Records.{recordSize}
 use Rattle.diagram.specs.Build.{nodeRoom}
 use Rattle.diagram.specs.Walk.{variableAt, lowAt, highAt, weightAt, childFits, recordFits, recordCount, listFits, bitSet, pathWeight, walkValue}
-use Rattle.diagram.specs.Edges.{Recorded, Walkable, edgeAt}
+use Rattle.diagram.specs.Edges.{Walkable, edgeAt}
 use Rattle.diagram.specs.declared.Edge.{Edge}
 use Rattle.diagram.specs.Laws.Checks.{unequal, child-node, weight-mag}
 use Rattle.diagram.specs.Laws.Paths.{path-terminal}
@@ -97,10 +97,10 @@ record-passes n list h k one l =
     ∙ every-at (recordFits n list) (range 1 (recordCount list)) 0 (both (eqb (length list % recordSize) 0 && leb (length list) (nodeRoom n)) (every (recordFits n list) (range 1 (recordCount list))) h .1) (k - 1) (rw length-range (omega arith))
 
 -- What a record's check says of its edges.
-pub record EdgesFit (list : List ℤ) (k : ℕ) : Type 0 where
-  pub low : childFits list k (lowAt list k) ≡ true
-  pub high : childFits list k (highAt list k) ≡ true
-  pub weight : isWeight (weightAt list k) ≡ true
+record EdgesFit (list : List ℤ) (k : ℕ) : Type 0 where
+  low : childFits list k (lowAt list k) ≡ true
+  high : childFits list k (highAt list k) ≡ true
+  weight : isWeight (weightAt list k) ≡ true
 
 edges-fit : (n : ℕ) (list : List ℤ) (k : ℕ) → recordFits n list k ≡ true → EdgesFit list k
 unfolding recordFits

@@ -1,8 +1,8 @@
 -- The fork of a class, read at its first block: the places that are read, the nodes of the halves, and when they differ.
-use Prim.Native.Nat.{ℕ, zero, suc, _+_, _-_, _*_, _^_, _≤_, _<_}
-use mathlib.Core.Path.{_≡_, refl, sym, _∙_, ap, ap₂}
-use mathlib.Core.Bool.{Bool, true, false, not, _&&_, true≢false}
-use mathlib.Core.List.{List, [], _∷_, map, map-id}
+use Prim.Native.Nat.{ℕ, suc, _+_, _-_, _*_, _^_, _≤_, _<_}
+use mathlib.Core.Path.{_≡_, sym, _∙_, ap, ap₂}
+use mathlib.Core.Bool.{true, not, _&&_, true≢false}
+use mathlib.Core.List.{List, [], map, map-id}
 use native.Mathlib.Nat.{mul-le-mul-right, mul-le-mul-left, mul-one, add-zero, two-pow-succ}
 use native.Mathlib.Numerals.{add-one}
 use native.Mathlib.Omega.{arith}
@@ -10,9 +10,9 @@ use lib.ListN.{length, getD}
 use lib.Dec.{eqb}
 use lib.Pow.{pow-pos, pow-mono}
 use lib.IntN.{ℤ, pos, _+ℤ_, _-ℤ_}
-use lib.Signed.{mag}
 use mir.Syntax.{w32}
-use mir.Val.{SFits}
+use mir.Val.{SFits, ofZ, toZ}
+use mir.Facts.{toZ-ofZ}
 use borrow.Author.Tests.{eqb-true, eq-eqb}
 use Rattle.numbers.specs.Lists.{every}
 use Rattle.numbers.specs.Ranges.{isValue, eqZ}
@@ -29,9 +29,8 @@ use Rattle.blocks.specs.Laws.Blocks.{block-at}
 use Rattle.blocks.specs.Laws.Classes.{class-below, class-stands, same-class, class-count-le}
 use Rattle.blocks.specs.Laws.Differences.{differences-again}
 use Rattle.blocks.specs.Laws.Same.{same-true, equal-same}
-use Rattle.diagram.specs.Records.{branches, node}
-use Rattle.diagram.specs.Building.{classAt, forkOf, NodesKnown, Forking}
-use Rattle.diagram.specs.Accepted.{Accepted}
+use Rattle.diagram.specs.Records.{branches, node, recordOf}
+use Rattle.diagram.specs.Building.{classAt, forkOf, Forking}
 use Rattle.diagram.specs.declared.Fork.{Fork}
 use Rattle.diagram.specs.Laws.Alike.{BlockLike, lower-of-block, upper-of-block, whole-length, like-lower, like-upper}
 use Rattle.diagram.specs.Laws.Checks.{variables-range, weight-mag}
@@ -108,6 +107,13 @@ module _ (n : ℕ) (table : List ℤ) (h : ℕ) (cut : h ≤ n) (j k : ℕ) (ins
           (ap (λ z. eqZ z (pos 0)) (ap (λ l. first right -ℤ first l) e ∙ sub-self (first right)) ∙ eqZ-refl (pos 0))
 
 -- ---- the fork of a class
+
+-- A fork gives the block's record.
+pub fork-record : (n : ℕ) (table : List ℤ) (i : ℕ) (values : List ℤ) (f : Fork) → f ≡ forkOf n table i values → SFits w32 (first (upperHalf i values) -ℤ first (lowerHalf i values)) → record { variable = i; low = f .low; high = f .high; weight = toZ w32 (ofZ w32 (f .weight)) } ≡ recordOf n table i values
+unfolding forkOf recordOf
+fork-record n table i values f e h =
+    ap (λ g. record { variable = i; low = g .low; high = g .high; weight = toZ w32 (ofZ w32 (g .weight)) }) e
+    ∙ ap (λ w. record { variable = i; low = node n table i (lowerHalf i values); high = node n table i (upperHalf i values); weight = w }) (toZ-ofZ h)
 
 module _ {n h c : ℕ} {table : List ℤ} {classRow firstRow row : List ℕ} (f : Forking n h c table classRow firstRow row) where
   open Forking f using (accepted, cut, class, numbered, placed, below)

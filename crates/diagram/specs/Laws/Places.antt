@@ -1,5 +1,5 @@
 -- What stands where in the rows of all cuts: a block's class, and a class's first block.
-use Prim.Native.Nat.{ℕ, zero, suc, _+_, _-_, _*_, _^_, _≤_, _<_}
+use Prim.Native.Nat.{ℕ, zero, suc, _+_, _-_, _^_, _≤_, _<_}
 use mathlib.Core.Path.{_≡_, refl, sym, _∙_, ap, ap₂}
 use mathlib.Core.List.{List, [], _∷_, _++_, map, flatMap, append-nil}
 use native.Mathlib.Nat.{zero-add, two-pow-succ}
@@ -11,7 +11,7 @@ use lib.IntN.{ℤ}
 use Rattle.numbers.specs.Lists.{range, padded}
 use Rattle.numbers.specs.Laws.Lists.{range-suc, length-range, getD-range, getD-map}
 use Rattle.numbers.specs.Laws.Selections.{flatMap-append, range-add}
-use Rattle.blocks.specs.Blocks.{block, blocks, differences}
+use Rattle.blocks.specs.Blocks.{block, differences}
 use Rattle.blocks.specs.Classes.{numberIn, distinct, classes, classCount, classOf}
 use Rattle.blocks.specs.Layout.{numbersOf, firstsOf, cutNumbers, cutFirsts, allNumbers, allFirsts, allCounts, cutPlace}
 use Rattle.blocks.specs.Laws.Classes.{cutDifferences, cut-length, cut-at, class-count-le}

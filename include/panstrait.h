@@ -39,6 +39,40 @@ bool panstrait_classes(size_t n, const int32_t *table, size_t table_len,
                        size_t *firsts, size_t firsts_len,
                        size_t *counts, size_t counts_len);
 
+/*
+ * Build: 0, and the first numbers of the node buffer hold the table's records,
+ * behind count stands the node count (records plus 1) and behind offset the
+ * offset; else the refusal's number (1, 2, 3 or 4), and buffer, count and
+ * offset are left as they were. A record is four numbers: variable, low, high,
+ * weight.
+ */
+uint8_t panstrait_build(size_t n, const int32_t *table, size_t table_len,
+                        int32_t *nodes, size_t nodes_len,
+                        size_t *count, int32_t *offset);
+
+/*
+ * Walk: 0, and behind value the value at X of a record list over n variables;
+ * else the refusal's number (1, 5, 6 or 7), and value is left as it was.
+ */
+uint8_t panstrait_walk(size_t n, int32_t offset,
+                       const int32_t *records, size_t records_len, size_t x,
+                       int32_t *value);
+
+/*
+ * Run: 0, and behind value the value of an image at X, behind words the number
+ * of words read for it, one in each cell; else the refusal's number (7, 11,
+ * 12, 13 or 14), and both are left as they were.
+ */
+uint8_t panstrait_run(const uint8_t *image, size_t image_len, size_t x,
+                      int32_t *value, size_t *words);
+
+/*
+ * Expand: 0, and the table buffer holds the value of an image at every X; else
+ * the refusal's number (2, 11, 12, 13 or 14), and the buffer is left as it was.
+ */
+uint8_t panstrait_expand(const uint8_t *image, size_t image_len,
+                         int32_t *table, size_t table_len);
+
 #ifdef __cplusplus
 }
 #endif

@@ -1,12 +1,19 @@
-//! The proved library's speed beside programs in Rust, on the same buffers in
-//! one process. A line for each measurement: what was measured, both times,
-//! and their ratio.
+//! The proved library's speed beside programs in Rust, on the same arguments
+//! in one process. A line for each measurement: what was measured, both times,
+//! and their ratio. `rt staticlib exports` at the root of the repository comes
+//! first, then `cargo run --release --offline` here.
 
 mod classes;
+#[path = "../../compare/tests/common/mod.rs"]
+mod common;
+mod diagrams;
+mod evaluation;
 mod same_method;
 mod tables;
 mod timing;
 
 fn main() {
     classes::measure();
+    diagrams::measure();
+    evaluation::measure();
 }

@@ -47,3 +47,56 @@ fn same_differences(left: &[i32], right: &[i32]) -> bool {
             .zip(right)
             .all(|(&y, &z)| i64::from(y) - from_left == i64::from(z) - from_right)
 }
+
+/// The value of a checked image at X: one word of each cell is read in place.
+pub fn evaluate(image: &[u8], x: usize) -> i32 {
+    let two = |at: usize| usize::from(image[at]) << 8 | usize::from(image[at + 1]);
+    let four = |at: usize| two(at) << 16 | two(at + 2);
+    let mut value = four(2) as i32;
+    let mut left = usize::from(image[1]);
+    let (mut at, mut class) = (6, 0);
+    while left > 0 {
+        let group = usize::from(image[at + 1]);
+        left -= group;
+        let group_value = x >> left & ((1 << group) - 1);
+        let word = at + 7 + 7 * ((class << group) + group_value);
+        at += 7 + 7 * (two(at + 2) << group);
+        class = two(word + 1);
+        value += four(word + 3) as i32;
+    }
+    value
+}
+
+/// Build for a table that passes its checks: the node count, and the records
+/// in the first numbers of the buffer.
+pub fn build(n: usize, table: &[i32], nodes: &mut [i32]) -> usize {
+    assert!(table
+        .iter()
+        .all(|value| (-8_388_608..=8_388_607).contains(value)));
+    let mut classes = [0; 8_191];
+    let mut firsts = [0; 8_191];
+    let mut counts = [0; 13];
+    let places = (2 << n) - 1;
+    let (classes, firsts) = (&mut classes[..places], &mut firsts[..places]);
+    class_cuts(n, table, classes, firsts, &mut counts[..=n]);
+    let mut row = [0; 8_191];
+    let mut made = 0;
+    for h in (0..n).rev() {
+        let (here, below) = ((1 << h) - 1, (2 << h) - 1);
+        let half = 1 << (n - h - 1);
+        for class in 0..counts[h] {
+            let first = firsts[here + class];
+            let (low, high) = (classes[below + 2 * first], classes[below + 2 * first + 1]);
+            let weight = table[(2 * first + 1) * half] - table[2 * first * half];
+            row[here + class] = row[below + low];
+            if low != high || weight != 0 {
+                let (low, high) = (row[below + low] as i32, row[below + high] as i32);
+                let record = [(n - h - 1) as i32, low, high, weight];
+                nodes[4 * made..4 * made + 4].copy_from_slice(&record);
+                made += 1;
+                row[here + class] = made;
+            }
+        }
+    }
+    made + 1
+}

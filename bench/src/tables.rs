@@ -1,5 +1,8 @@
 //! Tables over 12 variables: the worst ones for the class search, and typical ones.
 
+use crate::common::{self, tables};
+use std::f64::consts::PI;
+
 pub const N: usize = 12;
 
 /// A table and what it is.
@@ -8,49 +11,35 @@ pub struct Named {
     pub table: Vec<i32>,
 }
 
-fn named(name: &str, f: impl FnMut(usize) -> i32) -> Named {
+fn named(name: &str, table: Vec<i32>) -> Named {
     Named {
         name: name.to_string(),
-        table: (0..1 << N).map(f).collect(),
+        table,
     }
 }
 
-/// No two blocks of one height above 0 have equal differences.
-fn all_different() -> Named {
-    named("all classes different", |x| {
-        (x * x.saturating_sub(1) / 2) as i32
-    })
-}
-
-/// The blocks of a height agree up to their last value, another in each.
-fn last_value_differs(height: usize) -> Named {
-    let last = (1 << height) - 1;
-    named(
-        &format!("blocks of {} differ in the last value", 1 << height),
-        |x| {
-            if x & last == last {
-                (x >> height) as i32 + 1
-            } else {
-                0
-            }
-        },
-    )
-}
-
 pub fn worst() -> Vec<Named> {
-    let mut tables = vec![all_different()];
-    tables.extend([1, 2, 4, 6, 8].map(last_value_differs));
-    tables
+    let differ = |height: usize| {
+        named(
+            &format!("blocks of {} differ in the last value", 1 << height),
+            common::last_value_differs(N, height),
+        )
+    };
+    let mut worst = vec![named("all classes different", common::all_different(N))];
+    worst.extend([1, 2, 4, 6, 8].map(differ));
+    worst
 }
 
 pub fn typical() -> Vec<Named> {
-    let turn = |x: usize| 2.0 * std::f64::consts::PI * x as f64 / f64::from(1 << N);
+    let root = |x: usize| (100.0 * (x as f64).sqrt()) as i32;
+    let sine =
+        |most: f64| move |x: usize| (most * (2.0 * PI * x as f64 / f64::from(1 << N)).sin()) as i32;
     vec![
-        named("constant", |_| 7),
-        named("linear", |x| 3 * x as i32),
-        named("square root", |x| (100.0 * (x as f64).sqrt()) as i32),
-        named("sine, 8 bits", |x| (127.0 * turn(x).sin()) as i32),
-        named("sine, 24 bits", |x| (8_388_607.0 * turn(x).sin()) as i32),
-        named("remainder by 5", |x| (x % 5) as i32),
+        named("constant", tables::of(N, |_| 7)),
+        named("linear", tables::of(N, |x| 3 * x as i32)),
+        named("square root", tables::of(N, root)),
+        named("sine, 8 bits", tables::of(N, sine(127.0))),
+        named("sine, 24 bits", tables::of(N, sine(8_388_607.0))),
+        named("remainder by 5", tables::of(N, |x| (x % 5) as i32)),
     ]
 }

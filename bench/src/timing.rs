@@ -1,13 +1,38 @@
-//! Best times of several runs, and their ratio.
+//! Best times of several runs, and their ratio. A time is the processor time
+//! of this thread, so that other work on the machine counts little.
 
-use std::time::{Duration, Instant};
+use std::time::Duration;
 
 const RUNS: usize = 30;
 
+/// C's `struct timespec` and `CLOCK_THREAD_CPUTIME_ID` on 64-bit Linux.
+#[repr(C)]
+struct Timespec {
+    seconds: i64,
+    nanoseconds: i64,
+}
+
+const THREAD_TIME: i32 = 3;
+
+extern "C" {
+    fn clock_gettime(clock: i32, time: *mut Timespec) -> i32;
+}
+
+/// The processor time that this thread has used.
+fn now() -> Duration {
+    let mut time = Timespec {
+        seconds: 0,
+        nanoseconds: 0,
+    };
+    let status = unsafe { clock_gettime(THREAD_TIME, &mut time) };
+    assert_eq!(status, 0);
+    Duration::new(time.seconds as u64, time.nanoseconds as u32)
+}
+
 fn time(work: &mut impl FnMut()) -> Duration {
-    let start = Instant::now();
+    let start = now();
     work();
-    start.elapsed()
+    now() - start
 }
 
 /// One line: the proved function's time, another program's, and the ratio.
@@ -20,7 +45,7 @@ pub fn line(what: &str, other: &str, mut proved: impl FnMut(), mut beside: impl 
     }
     let [proved, beside] = best.map(|time| time.as_secs_f64() * 1e6);
     println!(
-        "{what:<48} proved {proved:>9.1} us   {other:<12} {beside:>9.1} us   ratio {:>5.2}",
+        "{what:<48} proved {proved:>9.1} us   {other:<24} {beside:>9.1} us   ratio {:>5.2}",
         proved / beside
     );
 }

@@ -1,3 +1,4 @@
 //! The proved library as safe functions: the tests hold them against the second program.
 
+pub mod answers;
 pub mod proved;

@@ -17,6 +17,36 @@ mod c {
             counts: *mut usize,
             counts_len: usize,
         ) -> bool;
+        pub fn panstrait_build(
+            n: usize,
+            table: *const i32,
+            table_len: usize,
+            nodes: *mut i32,
+            nodes_len: usize,
+            count: *mut usize,
+            offset: *mut i32,
+        ) -> u8;
+        pub fn panstrait_walk(
+            n: usize,
+            offset: i32,
+            records: *const i32,
+            records_len: usize,
+            x: usize,
+            value: *mut i32,
+        ) -> u8;
+        pub fn panstrait_run(
+            image: *const u8,
+            image_len: usize,
+            x: usize,
+            value: *mut i32,
+            words: *mut usize,
+        ) -> u8;
+        pub fn panstrait_expand(
+            image: *const u8,
+            image_len: usize,
+            table: *mut i32,
+            table_len: usize,
+        ) -> u8;
     }
 }
 
@@ -49,4 +79,40 @@ pub fn classes(
             counts.len(),
         )
     }
+}
+
+/// Build: 0 with node count, offset and records, or the refusal's number.
+pub fn build(
+    n: usize,
+    table: &[i32],
+    nodes: &mut [i32],
+    count: &mut usize,
+    offset: &mut i32,
+) -> u8 {
+    unsafe {
+        c::panstrait_build(
+            n,
+            table.as_ptr(),
+            table.len(),
+            nodes.as_mut_ptr(),
+            nodes.len(),
+            count,
+            offset,
+        )
+    }
+}
+
+/// Walk: 0 with the value at X, or the refusal's number.
+pub fn walk(n: usize, offset: i32, records: &[i32], x: usize, value: &mut i32) -> u8 {
+    unsafe { c::panstrait_walk(n, offset, records.as_ptr(), records.len(), x, value) }
+}
+
+/// Run: 0 with the value at X and the words read, or the refusal's number.
+pub fn run(image: &[u8], x: usize, value: &mut i32, words: &mut usize) -> u8 {
+    unsafe { c::panstrait_run(image.as_ptr(), image.len(), x, value, words) }
+}
+
+/// Expand: 0 with the table, or the refusal's number.
+pub fn expand(image: &[u8], table: &mut [i32]) -> u8 {
+    unsafe { c::panstrait_expand(image.as_ptr(), image.len(), table.as_mut_ptr(), table.len()) }
 }

@@ -5,6 +5,9 @@
 #[path = "../../../reference/tests/common/mod.rs"]
 mod reference;
 
+pub mod drafts;
+
+pub use reference::oracle::Cascade;
 pub use reference::tables::{self, Random};
 pub use reference::*;
 
@@ -30,9 +33,10 @@ pub fn adversarial(n: usize) -> Vec<Vec<i32>> {
     tables
 }
 
-/// No two blocks of one height above 0 have equal differences.
+/// No two blocks of one height above 0 have equal differences, and each has a
+/// record.
 pub fn all_different(n: usize) -> Vec<i32> {
-    tables::of(n, |x| (x * x.saturating_sub(1) / 2) as i32)
+    tables::of(n, |x| (x * (x + 1) / 2) as i32)
 }
 
 /// The blocks of one height agree up to their last value, which is another in

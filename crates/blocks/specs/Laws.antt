@@ -8,5 +8,6 @@ pub mod Cut
 pub mod Cuts
 pub mod Differences
 pub mod Known
+pub mod Places
 pub mod Same
 pub mod Searching

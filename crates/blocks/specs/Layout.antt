@@ -9,7 +9,7 @@ use lib.IntN.{ℤ, _-ℤ_}
 use Rattle.numbers.specs.Lists.{range, padded, overwritten}
 use Rattle.numbers.specs.Ranges.{mostVariables}
 use Rattle.blocks.specs.Blocks.{blocks, differences}
-use Rattle.blocks.specs.Classes.{numberIn, distinct, classes, classCount, classOf}
+use Rattle.blocks.specs.Classes.{numberIn, distinct, classes, classCount}
 
 -- Values less a constant.
 unfoldable pub less : ℤ → List ℤ → List ℤ

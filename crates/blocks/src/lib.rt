@@ -1,12 +1,12 @@
 // Blocks of a table, their differences, and the classes of every cut.
 ghost use mathlib.Core.Path.{_≡_};
 ghost use mathlib.Core.List.{map};
-ghost use Prim.Native.Nat.{ℕ, suc, _+_, _*_, _/_, _≤_, _<_};
+ghost use Prim.Native.Nat.{ℕ, suc, _+_, _*_, _/_, _^_, _≤_, _<_};
 ghost use lib.ListN.{length, getD, take, drop};
 ghost use lib.IntN.{pos, _-ℤ_};
-ghost use Rattle.blocks.specs.Blocks.{first, differences};
+ghost use Rattle.blocks.specs.Blocks.{block, first, differences};
 ghost use Rattle.blocks.specs.Classes.{same, numberIn};
-ghost use Rattle.blocks.specs.Layout.{less, part, partDifferences, PartsWithin, CutRoom, CutClassed, CutsRoom, CutPlaced, AllClassed, countNoted, firstsNoted};
+ghost use Rattle.blocks.specs.Layout.{cutPlace, less, part, partDifferences, PartsWithin, CutRoom, CutClassed, CutsRoom, CutPlaced, AllClassed, countNoted, firstsNoted};
 
 // A value less a constant, in a width that holds any such difference.
 fn difference(values: &[i32], x: usize, constant: i32) -> i64
@@ -177,4 +177,20 @@ pub fn class_cuts(
         counts[h] = class_cut_at(n, h, table, classes, firsts);
         h += 1;
     }
+}
+
+// Number k of cut h in a row of all cuts.
+pub fn in_cut(row: &[usize], h: usize, k: usize) -> usize
+    requires { ⌜ (h < 64) × (cutPlace h + k < length (now row)) ⌝ }
+    ensures { λ r. ⌜ r ≡ getD (now (row .entry)) (cutPlace h + k) 0 ⌝ }
+{
+    row[numbers::power(h) - 1 + k]
+}
+
+// The first value of block j of height i.
+pub fn first_of_block(table: &[i32], i: usize, j: usize) -> i32
+    requires { ⌜ (i < 64) × (j * 2 ^ i < length (now table)) ⌝ }
+    ensures { λ r. ⌜ r ≡ first (block (now (table .entry)) i j) ⌝ }
+{
+    table[j * numbers::power(i)]
 }

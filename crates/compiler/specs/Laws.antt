@@ -5,4 +5,5 @@ pub mod Cheapest
 pub mod Chosen
 pub mod Groupings
 pub mod Lengths
+pub mod WellFormed
 pub mod Words

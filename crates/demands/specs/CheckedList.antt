@@ -3,8 +3,7 @@ use Prim.Native.Nat.{ℕ}
 use Prim.Native.String.{String}
 use mathlib.Core.Path.{_≡_, refl}
 use mathlib.Core.List.{List, [], _∷_, _++_, map, flatMap}
-use lib.ListN.{length}
-use lib.IntN.{ℤ, pos, negsuc, negℤ}
+use lib.IntN.{ℤ, pos, negℤ}
 use Rattle.numbers.specs.Answers.{Answer, accepted, refused, mapAnswer}
 use Rattle.numbers.specs.Lists.{range, every, keep, tally, sum, leastFrom, least}
 use Rattle.numbers.specs.Ranges.{mostVariables, widestAddress, isVariables, isLimit, within, isValue, eqZ}
@@ -12,7 +11,7 @@ use Rattle.numbers.specs.Widths.{railWidth, holds, enough, weightWidth, cellBit
 use Rattle.blocks.specs.Blocks.{block, blocks, first, lowerHalf, upperHalf, differences}
 use Rattle.blocks.specs.Classes.{same, numberIn, learn, learnAll, distinct, classes, classCount, classOf, railAt}
 use Rattle.diagram.specs.Records.{branches, kinds, recordsBelow, node, recordOf, recordsAt, records, recordNumbers, recordSize, offset, nodeCount}
-use Rattle.diagram.specs.Build.{ofTable, nodeRoom, build, Summary, buildAnswer}
+use Rattle.diagram.specs.Build.{ofTable, nodeRoom, build, buildAnswer}
 use Rattle.diagram.specs.Bound.{stepAt, isJump, jumps, risingKinds, nodeBound}
 use Rattle.image.specs.Bytes.{bigEndian, signedBytes, number, unsignedAt, signedAt}
 use Rattle.image.specs.Cells.{Cell, bitsOf, totalBits}

@@ -1,5 +1,5 @@
 -- The node bound of the demands: k, and the bound for every p and every l.
-use Prim.Native.Nat.{ℕ, suc, _+_, _-_, _*_, _^_}
+use Prim.Native.Nat.{ℕ, _+_, _-_, _^_}
 use mathlib.Core.Bool.{Bool, _||_}
 use mathlib.Core.List.{List, map}
 use lib.ListN.{getD}

@@ -2,21 +2,17 @@
 use Prim.Native.Nat.{ℕ, suc, _+_, _-_, _*_, _≤_, _<_}
 use mathlib.Core.Path.{_≡_}
 use mathlib.Core.Bool.{true, cond}
-use mathlib.Core.List.{List, [], map, flatMap}
+use mathlib.Core.List.{List, map, flatMap}
 use lib.ListN.{length, getD, set}
 use lib.IntN.{ℤ, _-ℤ_}
 use Rattle.numbers.specs.Lists.{overwritten}
 use Rattle.blocks.specs.Blocks.{first, lowerHalf, upperHalf}
-use Rattle.blocks.specs.Classes.{classes, classCount}
+use Rattle.blocks.specs.Classes.{classAt, classes, classCount}
 use Rattle.blocks.specs.Layout.{allNumbers, allFirsts, allCounts, cutPlace}
 use Rattle.diagram.specs.Accepted.{Accepted}
 use Rattle.diagram.specs.Build.{nodeRoom}
 use Rattle.diagram.specs.Records.{branches, node, recordOf, recordsAt, recordsBelow, records, recordNumbers, recordSize}
 use Rattle.diagram.specs.declared.Fork.{Fork}
-
--- The differences that class c of cut h stands for.
-unfoldable pub classAt : ℕ → List ℤ → ℕ → ℕ → List ℤ
-classAt n table h c = getD (classes n table h) c []
 
 -- The nodes of a block's halves, its weight, and whether it branches.
 unfoldable pub forkOf : ℕ → List ℤ → ℕ → List ℤ → Fork

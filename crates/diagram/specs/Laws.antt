@@ -11,7 +11,6 @@ pub mod Forks
 pub mod Nodes
 pub mod Numbering
 pub mod Paths
-pub mod Places
 pub mod RecordBlocks
 pub mod Reduced
 pub mod SameRecords

@@ -1,18 +1,19 @@
 // The reduced edge-valued decision diagram of a table: Build and Walk.
 ghost use mathlib.Core.Path.{_≡_};
 ghost use mathlib.Core.Bool.{true, not, _&&_};
-ghost use Prim.Native.Nat.{suc, _+_, _-_, _*_, _^_, _≤_, _<_};
+ghost use Prim.Native.Nat.{ℕ, suc, _+_, _-_, _*_, _^_, _≤_, _<_};
 ghost use lib.ListN.{length, getD, set};
 ghost use lib.Dec.{eqb};
 ghost use lib.IntN.{pos, _-ℤ_};
 ghost use Rattle.numbers.specs.Lists.{range, every, overwritten};
 ghost use Rattle.numbers.specs.Ranges.{isVariables, isValue, within, eqZ};
 ghost use Rattle.blocks.specs.Blocks.{block, first};
+ghost use Rattle.blocks.specs.Classes.{classAt};
 ghost use Rattle.blocks.specs.Layout.{cutPlace, AllClassed};
 ghost use Rattle.diagram.specs.Accepted.{Accepted};
 ghost use Rattle.diagram.specs.Build.{nodeRoom, tableChecks, checked, Builds};
-ghost use Rattle.diagram.specs.Building.{classAt, forkOf, Forking, RecordRoom, ClassPlaced, CutReady, CutRecorded, TableRoom, BuildReady, AllRecorded};
-ghost use Rattle.diagram.specs.Records.{recordNumbers, recordSize};
+ghost use Rattle.diagram.specs.Building.{forkOf, Forking, RecordRoom, ClassPlaced, CutReady, CutRecorded, TableRoom, BuildReady, AllRecorded};
+ghost use Rattle.diagram.specs.Records.{branches, recordNumbers, recordSize};
 ghost use Rattle.diagram.specs.Walk.{numberAt, childFits, recordFits, recordCount, listFits, walkValue, walk, walked};
 ghost use Rattle.diagram.specs.Edges.{Recorded, Walkable, Passing, edgeAt};
 
@@ -146,9 +147,9 @@ fn list_fits(n: usize, records: &[i32]) -> bool
 }
 
 // What reading a variable at a node gives: a weight, and the next node.
-struct Edge {
-    weight: i32,
-    node: usize,
+pub struct Edge {
+    pub weight: i32,
+    pub node: usize,
 }
 
 // The edge that X takes from node k at variable i, or none where k is node 0 or a record of another variable.
@@ -212,14 +213,6 @@ pub fn walk(n: usize, offset: i32, records: &[i32], x: usize) -> Walked
     Walked::Value(walk_value(n, offset, records, x))
 }
 
-// Number k of cut h in a row of all cuts.
-fn in_cut(row: &[usize], h: usize, k: usize) -> usize
-    requires { ⌜ (h < 64) × (cutPlace h + k < length (now row)) ⌝ }
-    ensures { λ r. ⌜ r ≡ getD (now (row .entry)) (cutPlace h + k) 0 ⌝ }
-{
-    row[numbers::power(h) - 1 + k]
-}
-
 // Number k of cut h in a row of all cuts is set.
 fn set_in_cut(row: &mut [usize], h: usize, k: usize, number: usize)
     requires { ⌜ (h < 64) × (cutPlace h + k < length (now row)) ⌝ }
@@ -229,39 +222,33 @@ fn set_in_cut(row: &mut [usize], h: usize, k: usize, number: usize)
     row[place] = number;
 }
 
-// The first value of block j of height i.
-fn first_of_block(table: &[i32], i: usize, j: usize) -> i32
-    requires { ⌜ (i < 64) × (j * 2 ^ i < length (now table)) ⌝ }
-    ensures { λ r. ⌜ r ≡ first (block (now (table .entry)) i j) ⌝ }
-{
-    table[j * numbers::power(i)]
-}
-
 // The weight of block j, whose halves have height i.
 fn weight_of_block(table: &[i32], i: usize, j: usize) -> i32
     requires { ⌜ every isValue (now table) ≡ true ⌝ }
     requires { ⌜ (i < 64) × ((j * 2 + 1) * 2 ^ i < length (now table)) ⌝ }
     ensures { λ r. ⌜ r ≡ first (block (now (table .entry)) i (j * 2 + 1)) -ℤ first (block (now (table .entry)) i (j * 2)) ⌝ }
 {
-    first_of_block(table, i, j * 2 + 1) - first_of_block(table, i, j * 2)
+    blocks::first_of_block(table, i, j * 2 + 1) - blocks::first_of_block(table, i, j * 2)
 }
 
-// Whether halves of these classes and this weight differ as values.
-fn halves_differ(low: usize, high: usize, weight: i32) -> bool
-    ensures { λ r. ⌜ r ≡ not (eqb low high && eqZ weight (pos 0)) ⌝ }
+// Whether block j, whose halves have height i, branches: its upper half, the part that begins in its middle, differs from
+// its lower half.
+fn block_branches(table: &[i32], i: usize, j: usize) -> bool
+    requires { ⌜ (i < 63) × (j * 2 ^ suc i + 2 ^ suc i ≤ length (now table)) ⌝ }
+    ensures { λ r. ⌜ r ≡ branches i (block (now (table .entry)) (suc i) j) ⌝ }
 {
-    if low != high {
-        return true;
-    }
-    weight != 0
+    let size = numbers::power(i + 1);
+    let start = j * size;
+    let end = start + size;
+    !blocks::same_halves(&table[start..end])
 }
 
 // What Build learns of a class: the nodes of its halves, its weight, and whether it branches.
-struct Fork {
-    low: usize,
-    high: usize,
-    weight: i32,
-    branching: bool,
+pub struct Fork {
+    pub low: usize,
+    pub high: usize,
+    pub weight: i32,
+    pub branching: bool,
 }
 
 // The fork of class c of cut h, read at the class's first block.
@@ -277,15 +264,15 @@ fn fork_at(
     requires { ⌜ Forking n h c (now table) (now classes) (now firsts) (now row) ⌝ }
     ensures { λ r. ⌜ r ≡ forkOf n (now (table .entry)) (n - suc h) (classAt n (now (table .entry)) h c) ⌝ }
 {
-    let j = in_cut(firsts, h, c);
-    let low = in_cut(classes, h + 1, j * 2);
-    let high = in_cut(classes, h + 1, j * 2 + 1);
+    let j = blocks::in_cut(firsts, h, c);
+    let low = blocks::in_cut(classes, h + 1, j * 2);
+    let high = blocks::in_cut(classes, h + 1, j * 2 + 1);
     let weight = weight_of_block(table, n - (h + 1), j);
     Fork {
-        low: in_cut(row, h + 1, low),
-        high: in_cut(row, h + 1, high),
+        low: blocks::in_cut(row, h + 1, low),
+        high: blocks::in_cut(row, h + 1, high),
         weight,
-        branching: halves_differ(low, high, weight),
+        branching: block_branches(table, n - (h + 1), j),
     }
 }
 

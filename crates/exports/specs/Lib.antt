@@ -1,2 +1,4 @@
 -- What the C interface answers: results, and what it leaves behind references and in lent buffers.
 pub mod Classing
+pub mod Laws
+pub mod Results

@@ -1,7 +1,7 @@
 -- The commands of an image, their bytes, and the cells that a list of commands describes.
 use Prim.Native.Nat.{ℕ}
 use mathlib.Core.List.{List, [], _∷_, _++_, map, flatMap}
-use lib.IntN.{ℤ, pos}
+use lib.IntN.{pos}
 use Rattle.image.specs.Bytes.{bigEndian, signedBytes}
 use Rattle.image.specs.Cells.{Word, Cell, Card, totalBits}
 use Rattle.image.specs.declared.Command.{Command}

@@ -4,7 +4,7 @@ use mathlib.Core.Bool.{Bool, true, false, _&&_, _||_, not}
 use mathlib.Core.List.{List, [], _∷_}
 use lib.ListN.{length, getD}
 use lib.Dec.{leb, ltb, eqb}
-use lib.IntN.{ℤ, pos}
+use lib.IntN.{pos}
 use Rattle.numbers.specs.Answers.{Answer, accepted, refused, unless, mapAnswer, andThen}
 use Rattle.numbers.specs.Ranges.{isVariables, isValue, isWeight, eqZ, lesser, greater, widestAddress}
 use Rattle.numbers.specs.Widths.{railWidth, weightWidth, cellBits}

@@ -4,7 +4,7 @@ use mathlib.Core.List.{List, [], _∷_, map}
 use lib.ListN.{length, getD}
 use lib.Dec.{ltb, eqb}
 use lib.IntN.{ℤ, pos, _+ℤ_}
-use Rattle.numbers.specs.Answers.{Answer, accepted, refused, unless, mapAnswer, andThen, bufferAfter}
+use Rattle.numbers.specs.Answers.{Answer, accepted, refused, unless, andThen, bufferAfter}
 use Rattle.numbers.specs.Lists.{range}
 use Rattle.image.specs.Cells.{Word, Cell, Card}
 use Rattle.image.specs.Commands.{cardOf}

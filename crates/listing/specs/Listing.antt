@@ -1,11 +1,10 @@
 -- The listing program's output, as a function of its input's bytes.
-use Prim.Native.Nat.{ℕ, zero, suc, _+_, _-_, _*_, _/_, _%_, _^_}
-use mathlib.Core.Bool.{true, false}
+use Prim.Native.Nat.{ℕ, suc, _+_, _-_, _*_, _/_, _^_}
 use mathlib.Core.List.{List, [], _∷_, _++_, map, flatMap}
-use lib.ListN.{length, getD, drop}
+use lib.ListN.{length, getD}
 use lib.Dec.{leb, eqb}
 use lib.IntN.{ℤ, pos}
-use Rattle.numbers.specs.Answers.{Answer, accepted, refused, unless, andThen}
+use Rattle.numbers.specs.Answers.{Answer, accepted, refused, unless}
 use Rattle.numbers.specs.Lists.{range}
 use Rattle.numbers.specs.Ranges.{isVariables}
 use Rattle.diagram.specs.Records.{Record, records, recordNumbers, offset, nodeCount}

@@ -10,6 +10,7 @@ pub mod Machine
 pub mod Order
 pub mod Overwriting
 pub mod Padding
+pub mod Pieces
 pub mod Powers
 pub mod Rows
 pub mod Selections

@@ -1,6 +1,6 @@
 -- `blocks::class_cut` meets its contract. The loop's invariant: the rows hold what is known after j blocks. Assumes nothing.
 use Prim.Native.Nat.{ℕ, _+_, _-_, _*_, _≤_, _<_}
-use mathlib.Core.Path.{_≡_, refl, sym, _∙_, ap, subst}
+use mathlib.Core.Path.{_≡_, sym, _∙_, subst}
 use native.Mathlib.Nat.{suc-mul, mul-le-mul-right}
 use native.Mathlib.Omega.{arith}
 use lib.ListN.{length, take, set}
@@ -9,7 +9,7 @@ use mir.Facts.{fits-of-lt}
 use borrow.Author.Needs.{scaled-fits}
 use Rattle.blocks.specs.Blocks.{differences}
 use Rattle.blocks.specs.Classes.{numberIn}
-use Rattle.blocks.specs.Layout.{part, partDifferences, PartsWithin, CutClassed, countNoted, firstsNoted}
+use Rattle.blocks.specs.Layout.{part, partDifferences, PartsWithin, countNoted, firstsNoted}
 use Rattle.blocks.specs.Laws.Cut.{CutSoFar, cut-start, cut-few, cut-parts, cut-next, cut-done}
 use Rattle.blocks.proofs.class_cut.Statement.{statement}
 use Rattle.blocks.proofs.class_cut.Tie as tie

@@ -1,13 +1,7 @@
 -- `blocks::class_cut_at` meets its contract: the parts of both rows that belong to cut h are lent and come back. Assumes nothing.
-use Prim.Native.Nat.{ℕ, suc, _+_, _-_, _*_, _^_, _≤_, _<_}
-use mathlib.Core.Path.{_≡_, refl, sym, _∙_, ap, ap₂}
-use mathlib.Core.List.{List, map}
 use native.Mathlib.Omega.{arith}
-use lib.ListN.{length, take, drop, length-take, length-drop}
-use lib.Pow.{pow-pos, pow-mono}
 use mir.Facts.{fits-of-lt}
 use Rattle.numbers.specs.Ranges.{mostVariables}
-use Rattle.blocks.specs.Layout.{cutPlace, CutsRoom, CutRoom, CutPlaced}
 use Rattle.blocks.specs.Laws.Cuts.{CutAt, count-small, within-classes, within-firsts, cut-room, cut-placed}
 use borrow.Author.Needs.{needs}
 use Rattle.blocks.proofs.class_cut_at.Statement.{statement}

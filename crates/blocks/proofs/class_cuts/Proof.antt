@@ -1,8 +1,7 @@
 -- `blocks::class_cuts` meets its contract. The loop's invariant: the rows hold the cuts before h. Assumes nothing.
-use Prim.Native.Nat.{ℕ, suc, _+_, _-_, _≤_, _<_}
-use mathlib.Core.Path.{_≡_, refl, sym, _∙_, ap, subst}
+use Prim.Native.Nat.{suc, _-_, _≤_}
+use mathlib.Core.Path.{_≡_, sym, _∙_, subst}
 use native.Mathlib.Omega.{arith}
-use lib.ListN.{length}
 use mir.Facts.{fits-of-lt}
 use Rattle.numbers.specs.Ranges.{mostVariables}
 use Rattle.blocks.specs.Laws.AllCuts.{CutsSoFar, no-cut, cuts-next, cuts-done}

@@ -1,5 +1,5 @@
 -- `blocks::difference` meets its contract: any difference of 32-bit numbers fits 64 bits. Assumes nothing.
-use mathlib.Core.Path.{_≡_, sym, _∙_, ap, ap₂}
+use mathlib.Core.Path.{_≡_, _∙_, ap, ap₂}
 use lib.IntN.{ℤ, pos, _-ℤ_}
 use lib.ListN.{getD}
 use mir.Syntax.{w32, w64}

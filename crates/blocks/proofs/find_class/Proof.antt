@@ -1,13 +1,13 @@
 -- `blocks::find_class` meets its contract. The loop's invariant: the known classes before k are passed over. Assumes nothing.
-use Prim.Native.Nat.{ℕ, _+_, _-_, _≤_, _<_}
-use mathlib.Core.Path.{_≡_, refl, sym, _∙_, ap}
+use Prim.Native.Nat.{_-_, _≤_, _<_}
+use mathlib.Core.Path.{_≡_, sym, _∙_, ap}
 use mathlib.Core.List.{[]}
 use native.Mathlib.Omega.{arith}
 use lib.ListN.{length, getD}
 use borrow.Author.Needs.{scaled-fits}
 use Rattle.blocks.specs.Blocks.{differences}
-use Rattle.blocks.specs.Classes.{same, numberIn}
-use Rattle.blocks.specs.Layout.{part, partDifferences}
+use Rattle.blocks.specs.Classes.{same}
+use Rattle.blocks.specs.Layout.{partDifferences}
 use Rattle.blocks.specs.Laws.Searching.{Passed, none-passed, one-passed, found-at, all-passed, length-parts, part-at}
 use Rattle.blocks.proofs.find_class.Statement.{statement}
 use Rattle.blocks.proofs.find_class.Tie as tie

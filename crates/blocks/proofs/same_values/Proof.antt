@@ -1,5 +1,5 @@
 -- `blocks::same_values` meets its contract: nothing is taken from the values. Assumes nothing.
-use mathlib.Core.Path.{_≡_, _∙_, ap₂}
+use mathlib.Core.Path.{_∙_, ap₂}
 use borrow.Author.Needs.{needs}
 use Rattle.blocks.specs.Classes.{same}
 use Rattle.blocks.specs.Laws.Comparing.{less-nothing}

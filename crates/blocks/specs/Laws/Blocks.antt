@@ -1,8 +1,8 @@
 -- Blocks: how many there are, how long each is, that they append to the table, and blocks within blocks.
 use Prim.Native.Nat.{ℕ, zero, suc, _+_, _-_, _*_, _^_, _≤_, _<_}
-use mathlib.Core.Path.{_≡_, refl, sym, _∙_, ap, ap₂}
-use mathlib.Core.List.{List, [], _∷_, _++_, map, flatten}
-use native.Mathlib.Nat.{add-zero, suc-mul, zero-mul, zero-add, one-mul, min-eq-left}
+use mathlib.Core.Path.{_≡_, sym, _∙_, ap, ap₂}
+use mathlib.Core.List.{List, _++_, map, flatten}
+use native.Mathlib.Nat.{add-zero, suc-mul, zero-mul, one-mul, min-eq-left}
 use native.Mathlib.Omega.{arith}
 use lib.ListN.{length, getD, take, drop, length-take, length-drop, length-map}
 use lib.Seq.{take-take, drop-drop, take-add, take-all, getD-take, getD-drop, take-length}

@@ -1,11 +1,11 @@
 -- The classes of a cut: same number exactly for equal differences, numbers by first appearance and all used, and what one class shares.
-use Prim.Native.Nat.{ℕ, zero, suc, _+_, _-_, _*_, _^_, _≤_, _<_}
-use mathlib.Core.Path.{_≡_, refl, sym, _∙_, ap, ap₂}
+use Prim.Native.Nat.{ℕ, _+_, _-_, _*_, _^_, _≤_, _<_}
+use mathlib.Core.Path.{_≡_, sym, _∙_, ap}
 use mathlib.Core.Logic.{_↔_}
 use mathlib.Core.List.{List, [], _∷_, map}
 use native.Mathlib.Nat.{sub-self, pow-zero, mul-one, zero-add}
 use native.Mathlib.Omega.{arith}
-use lib.ListN.{length, getD, take, drop, length-map}
+use lib.ListN.{length, getD, take, length-map}
 use lib.Pow.{pow-pos, pow-add}
 use lib.IntN.{ℤ, pos, _-ℤ_}
 use Rattle.numbers.specs.Lists.{range}

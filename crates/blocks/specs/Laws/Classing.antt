@@ -1,19 +1,15 @@
 -- Classing lists one by one, left to right: what is known after each, in the row of numbers and in the row of first places.
-use Prim.Native.Nat.{ℕ, zero, suc, _+_, _-_, _*_, _≤_, _<_}
+use Prim.Native.Nat.{ℕ, suc, _+_, _≤_, _<_}
 use mathlib.Core.Path.{_≡_, refl, sym, _∙_, ap, ap₂}
-use mathlib.Core.Bool.{Bool, true, false, cond}
 use mathlib.Core.List.{List, [], _∷_, _++_, map, map-append, append-assoc}
-use native.Mathlib.Nat.{le-antisymm}
-use native.Mathlib.Numerals.{add-one}
 use native.Mathlib.Decide.{decLt}
 use native.Mathlib.Omega.{arith}
-use lib.ListN.{length, getD, take, drop, set, length-append, length-map, length-set, List·getD-append}
-use lib.Seq.{take-suc, take-suc-set, take-set-lt, length-take-le, take-take, split-at, getD-take, take-length}
-use lib.Dec.{eqb}
+use lib.ListN.{length, getD, take, drop, set, length-append, length-map}
+use lib.Seq.{take-suc, take-suc-set, take-set-lt, length-take-le, take-take, split-at, take-length}
 use lib.IntN.{ℤ}
 use borrow.Author.Tests.{eq-eqb, ne-eqb}
 use Rattle.numbers.specs.Lists.{padded}
-use Rattle.numbers.specs.Laws.Padding.{length-padded, take-padded, padded-suc, set-padded}
+use Rattle.numbers.specs.Laws.Padding.{take-padded, padded-suc, set-padded}
 use Rattle.blocks.specs.Classes.{numberIn, learn, learnAll, distinct}
 use Rattle.blocks.specs.Layout.{countNoted, firstsNoted, numbersOf, firstsOf}
 use Rattle.blocks.specs.Laws.Known.{number-le, number-at, number-append, number-new, learn-known, learn-new, known-or-new, learnAll-append, number-when-met, distinct-known, distinct-length}

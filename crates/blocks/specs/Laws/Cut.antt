@@ -1,7 +1,7 @@
 -- Classing the blocks of a cut: what the rows hold on the way, and that they are whole at the end.
-use Prim.Native.Nat.{ℕ, zero, suc, _+_, _-_, _*_, _≤_, _<_}
+use Prim.Native.Nat.{ℕ, _+_, _*_, _≤_, _<_}
 use mathlib.Core.Path.{_≡_, refl, sym, _∙_, ap, ap₂, subst}
-use mathlib.Core.List.{List, [], _∷_, map}
+use mathlib.Core.List.{List, [], map}
 use native.Mathlib.Nat.{zero-add, suc-mul, mul-le-mul-right}
 use native.Mathlib.Numerals.{add-one}
 use native.Mathlib.Omega.{arith}
@@ -14,7 +14,7 @@ use Rattle.numbers.specs.Lists.{range}
 use Rattle.numbers.specs.Laws.Lists.{length-range, getD-range, getD-map}
 use Rattle.blocks.specs.Blocks.{differences}
 use Rattle.blocks.specs.Classes.{numberIn, distinct}
-use Rattle.blocks.specs.Layout.{part, partDifferences, PartsWithin, CutRoom, CutClassed, countNoted, firstsNoted, numbersOf, firstsOf}
+use Rattle.blocks.specs.Layout.{part, partDifferences, PartsWithin, CutRoom, CutClassed, countNoted, firstsNoted, firstsOf}
 use Rattle.blocks.specs.Laws.Known.{number-at, number-by, Among, distinct-seen}
 use Rattle.blocks.specs.Laws.Searching.{length-parts, part-at}
 use Rattle.blocks.specs.Laws.Classing.{Classed, none-classed, before-length, classed-next, known-places, all-classed}

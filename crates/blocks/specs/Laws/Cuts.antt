@@ -1,22 +1,22 @@
 -- The rows of all cuts: where each cut lies in them, and that its blocks are the parts of its size.
-use Prim.Native.Nat.{ℕ, zero, suc, _+_, _-_, _*_, _^_, _≤_, _<_, min}
-use mathlib.Core.Path.{_≡_, refl, sym, _∙_, ap, ap₂, subst}
-use mathlib.Core.List.{List, [], _∷_, _++_, map, flatMap, append-assoc}
+use Prim.Native.Nat.{ℕ, suc, _+_, _-_, _*_, _^_, _≤_, min}
+use mathlib.Core.Path.{_≡_, sym, _∙_, ap, ap₂}
+use mathlib.Core.List.{List, map}
 use native.Mathlib.Nat.{two-pow-succ, mul-comm}
 use native.Mathlib.Omega.{arith}
 use lib.ListN.{length, take, drop, length-map, length-take, length-drop}
 use lib.Pow.{pow-pos, pow-mono}
 use lib.IntN.{ℤ}
 use borrow.Rule.Slice.PartMut.{putMid}
-use Rattle.numbers.specs.Lists.{range, padded, overwritten}
+use Rattle.numbers.specs.Lists.{range, overwritten}
 use Rattle.numbers.specs.Ranges.{mostVariables}
-use Rattle.numbers.specs.Laws.Lists.{length-range, map-map, range-suc}
+use Rattle.numbers.specs.Laws.Lists.{map-map}
 use Rattle.numbers.specs.Laws.Overwriting.{part-back}
 use Rattle.numbers.specs.Laws.Padding.{length-padded}
 use Rattle.numbers.specs.Laws.Powers.{power-split}
 use Rattle.blocks.specs.Blocks.{block, blocks, differences}
 use Rattle.blocks.specs.Classes.{numberIn, distinct, classes, classCount}
-use Rattle.blocks.specs.Layout.{part, partDifferences, numbersOf, firstsOf, cutNumbers, cutFirsts, allNumbers, allFirsts, allCounts, cutPlace, CutsRoom, CutPlaced, CutRoom, CutClassed}
+use Rattle.blocks.specs.Layout.{part, partDifferences, numbersOf, firstsOf, cutNumbers, cutFirsts, cutPlace, CutsRoom, CutPlaced, CutRoom, CutClassed}
 use Rattle.blocks.specs.Laws.Known.{distinct-length}
 use Rattle.blocks.specs.Laws.Blocks.{blocks-count}
 

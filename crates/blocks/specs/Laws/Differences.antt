@@ -1,13 +1,13 @@
 -- Differences: their values, that a constant does not matter, and what blocks with equal differences share.
-use Prim.Native.Nat.{ℕ, zero, suc, _+_, _*_, _^_, _<_}
-use mathlib.Core.Path.{_≡_, refl, sym, _∙_, ap, ap₂}
+use Prim.Native.Nat.{ℕ, _*_, _^_, _<_}
+use mathlib.Core.Path.{_≡_, refl, sym, _∙_, ap}
 use mathlib.Core.List.{List, [], _∷_, map}
 use native.Mathlib.Omega.{arith}
 use lib.ListN.{length, getD, take, drop, length-map}
 use lib.IntN.{ℤ, pos, _+ℤ_, _-ℤ_}
-use Rattle.numbers.specs.Laws.Integers.{sub-self, sub-zero, sub-sub-same, shift-sub}
+use Rattle.numbers.specs.Laws.Integers.{sub-self, sub-sub-same, shift-sub}
 use Rattle.numbers.specs.Laws.Lists.{getD-map, map-take, map-drop, map-map, map-same}
-use Rattle.blocks.specs.Blocks.{block, first, lowerHalf, upperHalf, differences}
+use Rattle.blocks.specs.Blocks.{block, first, differences}
 
 pub length-differences : (values : List ℤ) → length (differences values) ≡ length values
 unfolding differences

@@ -1,20 +1,18 @@
 -- `diagram::fork_at` meets its contract. Assumes nothing.
 use Prim.Native.Nat.{suc, _+_, _-_, _*_}
 use mathlib.Core.Path.{_≡_, _∙_, ap, ap₂}
-use mathlib.Core.Bool.{not, _&&_}
 use native.Mathlib.Numerals.{add-one}
 use native.Mathlib.Omega.{arith}
 use lib.ListN.{getD}
-use lib.Dec.{eqb}
-use lib.IntN.{pos, _-ℤ_}
+use lib.IntN.{_-ℤ_}
 use mir.Syntax.{w32}
 use mir.Val.{ofZ, toZ}
 use mir.Facts.{toZ-ofZ}
 use borrow.Author.Needs.{needs, sfits-of}
-use Rattle.numbers.specs.Ranges.{eqZ}
 use Rattle.blocks.specs.Blocks.{block, first}
 use Rattle.blocks.specs.Layout.{cutPlace}
-use Rattle.diagram.specs.Laws.Forks.{j, low-class, high-class, cut-fits, first-inside, first-small, low-class-place, high-class-place, low-node-place, high-node-place, half-fits, weight-place, forkRead, fork-is}
+use Rattle.diagram.specs.Records.{branches}
+use Rattle.diagram.specs.Laws.Forks.{j, low-class, high-class, cut-fits, first-inside, first-small, low-class-place, high-class-place, low-node-place, high-node-place, half-fits, weight-place, half-small, whole-place, forkRead, fork-is}
 use Rattle.diagram.proofs.fork_at.Statement.{statement}
 use Rattle.diagram.proofs.fork_at.Tie as tie
 
@@ -72,11 +70,20 @@ in-cut-requires-5 c κs =
     let d = c .before .before in
     (cut-fits f .1, rw (d .in-cut3 .ensures, d .before .before .in-cut .ensures) (high-node-place f))
 
-halves-differ-requires : tie.Need-halves-differ-requires
-halves-differ-requires c κs = search needs
+add-block-branches : tie.Need-add-block-branches
+add-block-branches c = search needs
+
+sub-block-branches : tie.Need-sub-block-branches
+sub-block-branches c = let l = c .before .before .before .before .before .before .before .before .before .pre .cut in omega arith
+
+block-branches-requires : tie.Need-block-branches-requires
+block-branches-requires c κs =
+    let s = c .before .before .before .before .before .before .before .before .before in
+    let f = s .pre in
+    (let v = half-small f in omega arith, rw (c .before .before .before .before .before .in-cut .ensures, add-one (s .args .h)) (whole-place f))
 
 -- What each call read.
-module _ (c : tie.After-halves-differ) where
+module _ (c : tie.After-block-branches) where
   abbrev start : tie.Start
   start = c .before .before .before .before .before .before .before .before .before .before
 
@@ -95,12 +102,15 @@ module _ (c : tie.After-halves-differ) where
       ∙ c .before .before .before .weight-of-block .ensures
       ∙ ap₂ (λ h k. first (block (start .args .table .now) (start .args .n - h) (k * 2 + 1)) -ℤ first (block (start .args .table .now) (start .args .n - h) (k * 2))) (add-one (start .args .h)) (low-read .before .in-cut .ensures)
 
-  fork-read : record { low = c .before .before .in-cut4 .result; high = c .before .in-cut5 .result; weight = toZ w32 (ofZ w32 (c .before .before .before .weight-of-block .result)); branching = c .halves-differ .result } ≡ forkRead (start .pre)
+  fork-read : record { low = c .before .before .in-cut4 .result; high = c .before .in-cut5 .result; weight = toZ w32 (ofZ w32 (c .before .before .before .weight-of-block .result)); branching = c .block-branches .result } ≡ forkRead (start .pre)
   fork-read t = record {
     low = (c .before .before .in-cut4 .ensures ∙ ap (λ k. getD (start .args .row .now) (cutPlace (start .args .h + 1) + k) 0) is-low) t;
     high = (c .before .in-cut5 .ensures ∙ ap (λ k. getD (start .args .row .now) (cutPlace (start .args .h + 1) + k) 0) is-high) t;
     weight = is-weight t;
-    branching = (c .halves-differ .ensures ∙ ap₂ (λ a b. not (eqb a b && eqZ (toZ w32 (ofZ w32 (c .before .before .before .weight-of-block .result))) (pos 0))) is-low is-high ∙ ap (λ w. not (eqb (low-class (start .pre)) (high-class (start .pre)) && eqZ w (pos 0))) is-weight) t;
+    branching =
+        (c .block-branches .ensures
+        ∙ ap₂ (λ h k. branches (start .args .n - h) (block (start .args .table .now) (suc (start .args .n - h)) k)) (add-one (start .args .h)) (low-read .before .in-cut .ensures))
+        t;
   }
 
 returns : tie.Need-returns
@@ -125,5 +135,7 @@ fork-at-spec =
     in-cut-requires-4
     add-in-cut-5
     in-cut-requires-5
-    halves-differ-requires
+    add-block-branches
+    sub-block-branches
+    block-branches-requires
     returns)

@@ -17,11 +17,12 @@ use Rattle.blocks.specs.Layout.{cutPlace}
 use Rattle.blocks.specs.Laws.Classes.{class-count-le}
 use Rattle.diagram.specs.Build.{nodeRoom}
 use Rattle.diagram.specs.Records.{recordsBelow, node, recordsAt, records, recordNumbers, recordSize}
-use Rattle.diagram.specs.Building.{classAt, NodesKnown, CutReady, CutRecorded, BuildReady, AllRecorded}
+use Rattle.blocks.specs.Classes.{classAt}
+use Rattle.diagram.specs.Building.{NodesKnown, CutReady, CutRecorded, BuildReady, AllRecorded}
 use Rattle.diagram.specs.Laws.Checks.{variables-range}
 use Rattle.diagram.specs.Laws.CutRecords.{cut-known, numbers-length}
 use Rattle.diagram.specs.Laws.Numbering.{records-before, records-count, records-room, below-more}
-use Rattle.diagram.specs.Laws.Places.{place-inside, length-counts, count-at}
+use Rattle.blocks.specs.Laws.Places.{place-inside, length-counts, count-at}
 
 -- The numbers of the records of the variables below i.
 abbrev pub numbersBelow : ℕ → List ℤ → ℕ → List ℤ

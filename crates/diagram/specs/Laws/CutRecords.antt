@@ -24,12 +24,13 @@ use Rattle.blocks.specs.Laws.Cuts.{cut-end, cut-within}
 use Rattle.blocks.specs.Laws.Differences.{differences-again}
 use Rattle.diagram.specs.Build.{nodeRoom}
 use Rattle.diagram.specs.Records.{branches, kinds, recordsBelow, node, Record, recordOf, recordsAt, recordNumbers, recordSize}
-use Rattle.diagram.specs.Building.{classAt, NodesKnown, Forking, RecordRoom, ClassPlaced, CutReady, CutRecorded}
+use Rattle.blocks.specs.Classes.{classAt}
+use Rattle.diagram.specs.Building.{NodesKnown, Forking, RecordRoom, ClassPlaced, CutReady, CutRecorded}
 use Rattle.diagram.specs.Laws.BranchingClasses.{kinds-are, kind-below, kind-number}
 use Rattle.diagram.specs.Laws.Checks.{variables-range}
 use Rattle.diagram.specs.Laws.Nodes.{node-branching, node-passing}
 use Rattle.diagram.specs.Laws.Numbering.{records-count, records-room, below-more, kind-within}
-use Rattle.diagram.specs.Laws.Places.{first-block}
+use Rattle.blocks.specs.Laws.Places.{first-block}
 
 -- ---- on the way
 

@@ -1,42 +1,36 @@
 -- The fork of a class, read at its first block: the places that are read, the nodes of the halves, and when they differ.
 use Prim.Native.Nat.{ℕ, suc, _+_, _-_, _*_, _^_, _≤_, _<_}
 use mathlib.Core.Path.{_≡_, sym, _∙_, ap, ap₂}
-use mathlib.Core.Bool.{true, not, _&&_, true≢false}
-use mathlib.Core.List.{List, [], map, map-id}
+use mathlib.Core.Bool.{true}
+use mathlib.Core.List.{List, []}
 use native.Mathlib.Nat.{mul-le-mul-right, mul-le-mul-left, mul-one, add-zero, two-pow-succ}
 use native.Mathlib.Numerals.{add-one}
 use native.Mathlib.Omega.{arith}
 use lib.ListN.{length, getD}
-use lib.Dec.{eqb}
 use lib.Pow.{pow-pos, pow-mono}
-use lib.IntN.{ℤ, pos, _+ℤ_, _-ℤ_}
+use lib.IntN.{ℤ, pos, _-ℤ_}
 use mir.Syntax.{w32}
-use mir.Val.{SFits, ofZ, toZ}
-use mir.Facts.{toZ-ofZ}
-use borrow.Author.Tests.{eqb-true, eq-eqb}
+use mir.Val.{SFits}
 use Rattle.numbers.specs.Lists.{every}
-use Rattle.numbers.specs.Ranges.{isValue, eqZ}
-use Rattle.numbers.specs.Laws.Bools.{yes-or-no, both, and-both}
+use Rattle.numbers.specs.Ranges.{isValue}
 use Rattle.numbers.specs.Laws.Bounds.{difference-weight}
-use Rattle.numbers.specs.Laws.Integers.{eqZ-true, eqZ-refl, sub-self, sub-add}
-use Rattle.numbers.specs.Laws.Lists.{every-at, map-map, map-same}
-use Rattle.numbers.specs.Laws.Order.{no-difference}
+use Rattle.numbers.specs.Laws.Lists.{every-at}
 use Rattle.numbers.specs.Laws.Powers.{part-room, power-split}
 use Rattle.blocks.specs.Blocks.{block, first, lowerHalf, upperHalf, differences}
-use Rattle.blocks.specs.Classes.{same, classes, classCount, classOf}
+use Rattle.blocks.specs.Classes.{classes, classCount, classOf}
 use Rattle.blocks.specs.Layout.{cutPlace}
-use Rattle.blocks.specs.Laws.Blocks.{block-at}
-use Rattle.blocks.specs.Laws.Classes.{class-below, class-stands, same-class, class-count-le}
+use Rattle.blocks.specs.Laws.Blocks.{block-at, block-within}
+use Rattle.blocks.specs.Laws.Classes.{class-below, class-stands, class-count-le}
 use Rattle.blocks.specs.Laws.Differences.{differences-again}
-use Rattle.blocks.specs.Laws.Same.{same-true, equal-same}
-use Rattle.diagram.specs.Records.{branches, node, recordOf}
-use Rattle.diagram.specs.Building.{classAt, forkOf, Forking}
+use Rattle.diagram.specs.Records.{branches, node}
+use Rattle.blocks.specs.Classes.{classAt}
+use Rattle.diagram.specs.Building.{forkOf, Forking}
 use Rattle.diagram.specs.declared.Fork.{Fork}
 use Rattle.diagram.specs.Laws.Alike.{BlockLike, lower-of-block, upper-of-block, whole-length, like-lower, like-upper}
 use Rattle.diagram.specs.Laws.Checks.{variables-range, weight-mag}
 use Rattle.diagram.specs.Laws.Nodes.{node-differences, same-node, node-below}
 use Rattle.diagram.specs.Laws.Numbering.{weight-of-differences, records-count, records-room, below-more}
-use Rattle.diagram.specs.Laws.Places.{place-inside, length-numbers, length-firsts, class-at, first-block}
+use Rattle.blocks.specs.Laws.Places.{place-inside, length-numbers, length-firsts, class-at, first-block}
 use Rattle.diagram.specs.Laws.Shifts.{same-branches, same-lower, same-upper}
 
 -- ---- the weight of a block
@@ -60,60 +54,7 @@ weight-fits table i j values h =
     let m = weight-mag (first (block table i (j * 2 + 1)) -ℤ first (block table i (j * 2))) (difference-weight (first (block table i (j * 2 + 1))) (first (block table i (j * 2))) (first-is-value table i (j * 2 + 1) values h) (first-is-value table i (j * 2) values (lower-inside (length table) i j h))) in
     record { sfits = omega arith }
 
--- ---- when halves differ
-
--- Lists of equal differences that begin alike are equal.
-same-values : (left right : List ℤ) → differences left ≡ differences right → first left ≡ first right → left ≡ right
-unfolding differences
-same-values left right d e =
-    sym (restored left)
-    ∙ ap₂ (λ l f. map (λ v. v +ℤ f) l) d e
-    ∙ restored right
-  where
-    restored : (values : List ℤ) → map (λ v. v +ℤ first values) (map (λ v. v -ℤ first values) values) ≡ values
-    restored values =
-        map-map (λ v. v -ℤ first values) (λ v. v +ℤ first values) values
-        ∙ map-same (λ v. v -ℤ first values +ℤ first values) (λ v. v) values (λ v. sub-add v (first values))
-        ∙ map-id values
-
--- Blocks of a cut are equal value by value exactly when they have one class and equal first values.
-module _ (n : ℕ) (table : List ℤ) (h : ℕ) (cut : h ≤ n) (j k : ℕ) (inside : j < 2 ^ h) (within : k < 2 ^ h) where
-  abbrev left : List ℤ
-  left = block table (n - h) j
-
-  abbrev right : List ℤ
-  right = block table (n - h) k
-
-  one-class-one-start : (eqb (classOf n table h left) (classOf n table h right) && eqZ (first right -ℤ first left) (pos 0)) ≡ true → left ≡ right
-  one-class-one-start e =
-      let p = both (eqb (classOf n table h left) (classOf n table h right)) (eqZ (first right -ℤ first left) (pos 0)) e in
-      same-values left right
-      (same-class n table h cut j k inside within .0 (eqb-true (classOf n table h left) (classOf n table h right) (p .0)))
-      (sym (no-difference (first right) (first left) (eqZ-true (first right -ℤ first left) (pos 0) (p .1))))
-
-  pub same-blocks : same left right ≡ (eqb (classOf n table h left) (classOf n table h right) && eqZ (first right -ℤ first left) (pos 0))
-  same-blocks =
-      yes-or-no (same left right)
-      (λ e. e ∙ sym (alike (same-true left right e)))
-      (λ e.
-      yes-or-no (eqb (classOf n table h left) (classOf n table h right) && eqZ (first right -ℤ first left) (pos 0))
-      (λ p. absurd (true≢false (sym (equal-same left right (one-class-one-start p)) ∙ e)))
-      (λ p. e ∙ sym p))
-    where
-      alike : left ≡ right → (eqb (classOf n table h left) (classOf n table h right) && eqZ (first right -ℤ first left) (pos 0)) ≡ true
-      alike e =
-          and-both (eqb (classOf n table h left) (classOf n table h right)) (eqZ (first right -ℤ first left) (pos 0))
-          (eq-eqb (classOf n table h left) (classOf n table h right) (ap (classOf n table h) e))
-          (ap (λ z. eqZ z (pos 0)) (ap (λ l. first right -ℤ first l) e ∙ sub-self (first right)) ∙ eqZ-refl (pos 0))
-
 -- ---- the fork of a class
-
--- A fork gives the block's record.
-pub fork-record : (n : ℕ) (table : List ℤ) (i : ℕ) (values : List ℤ) (f : Fork) → f ≡ forkOf n table i values → SFits w32 (first (upperHalf i values) -ℤ first (lowerHalf i values)) → record { variable = i; low = f .low; high = f .high; weight = toZ w32 (ofZ w32 (f .weight)) } ≡ recordOf n table i values
-unfolding forkOf recordOf
-fork-record n table i values f e h =
-    ap (λ g. record { variable = i; low = g .low; high = g .high; weight = toZ w32 (ofZ w32 (g .weight)) }) e
-    ∙ ap (λ w. record { variable = i; low = node n table i (lowerHalf i values); high = node n table i (upperHalf i values); weight = w }) (toZ-ofZ h)
 
 module _ {n h c : ℕ} {table : List ℤ} {classRow firstRow row : List ℕ} (f : Forking n h c table classRow firstRow row) where
   open Forking f using (accepted, cut, class, numbered, placed, below)
@@ -247,17 +188,19 @@ module _ {n h c : ℕ} {table : List ℤ} {classRow firstRow row : List ℕ} (f 
       ∙ sym (weight-of-differences half whole-block (rw (whole-length n table (accepted .size) (suc half) j height-inside place-of-height) (omega (arith, two-pow-succ half, pow-pos half))))
       ∙ ap (λ d. first (upperHalf half d) -ℤ first (lowerHalf half d)) (place .1)
 
-  branching-is : not (eqb low-class high-class && eqZ (first upper-block -ℤ first lower-block) (pos 0)) ≡ branches half (classAt n table h c)
-  unfolding branches
-  branching-is =
-      ap₂ (λ a b. not (eqb a b && eqZ (first upper-block -ℤ first lower-block) (pos 0))) (is-class (j * 2) low-inside) (is-class (j * 2 + 1) high-inside)
-      ∙ ap not (sym (same-blocks n table (suc h) cut (j * 2) (j * 2 + 1) low-inside high-inside))
-      ∙ ap₂ (λ l u. not (same l u)) (sym is-lower) (sym is-upper)
-      ∙ same-branches half whole-block (classAt n table h c) alike
+  branching-is : branches half whole-block ≡ branches half (classAt n table h c)
+  branching-is = same-branches half whole-block (classAt n table h c) alike
+
+  pub half-small : half < 63
+  half-small = let v = variables-range n (accepted .variables) .1 in omega arith
+
+  -- The first block lies within the table.
+  pub whole-place : j * 2 ^ suc half + 2 ^ suc half ≤ length table
+  whole-place = rw (accepted .size, sym whole) (block-within n h j within-n (place .0))
 
   -- What is read is the fork of the class.
   abbrev pub forkRead : Fork
-  forkRead = record { low = getD row (cutPlace (h + 1) + low-class) 0; high = getD row (cutPlace (h + 1) + high-class) 0; weight = first upper-block -ℤ first lower-block; branching = not (eqb low-class high-class && eqZ (first upper-block -ℤ first lower-block) (pos 0)) }
+  forkRead = record { low = getD row (cutPlace (h + 1) + low-class) 0; high = getD row (cutPlace (h + 1) + high-class) 0; weight = first upper-block -ℤ first lower-block; branching = branches half whole-block }
 
   pub fork-is : forkRead ≡ forkOf n table half (classAt n table h c)
   unfolding forkOf

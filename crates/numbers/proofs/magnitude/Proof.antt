@@ -3,7 +3,7 @@ use mathlib.Core.Path.{_≡_, _∙_, ap}
 use lib.IntN.{pos, negsuc, natAbs, _-ℤ_}
 use lib.Signed.{mag}
 use mir.Syntax.{w32}
-use mir.Val.{SFits, ofZ, toZ}
+use mir.Val.{ofZ, toZ}
 use mir.Facts.{toZ-ofZ}
 use Rattle.numbers.specs.Laws.Machine.{complement, not-negative, magnitude-signed, magnitude-back, magnitude-fits, cast-back}
 use Rattle.numbers.proofs.magnitude.Statement.{statement}

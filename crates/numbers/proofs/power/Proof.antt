@@ -1,6 +1,6 @@
 -- `numbers::power` meets its contract: no bit is shifted out. Assumes nothing.
 use Prim.Native.Nat.{_^_}
-use mathlib.Core.Path.{_≡_, _∙_}
+use mathlib.Core.Path.{_∙_}
 use native.Mathlib.Nat.{one-mul}
 use native.Mathlib.Omega.{arith}
 use lib.Dec.{lit<}

@@ -1,5 +1,5 @@
 -- `numbers::weight_width` meets its contract: one bit more than the greater magnitude has, or none where both weights are 0. Assumes nothing.
-use Prim.Native.Nat.{ℕ, suc, _+_, _≤_, _<_}
+use Prim.Native.Nat.{ℕ, _+_, _≤_, _<_}
 use mathlib.Core.Path.{_≡_, refl, sym, _∙_, ap}
 use mathlib.Core.Logic.{⊎-elim}
 use mathlib.Core.List.{[], _∷_}
@@ -14,7 +14,7 @@ use mir.Facts.{fits-of-lt, sfits-lit, toZ-ofZ}
 use borrow.Author.Needs.{needs}
 use Rattle.numbers.specs.Lists.{every}
 use Rattle.numbers.specs.Ranges.{eqZ}
-use Rattle.numbers.specs.Widths.{bitLength, weightWidth}
+use Rattle.numbers.specs.Widths.{bitLength}
 use Rattle.numbers.specs.Laws.BitLength.{bit-length-least, pair-width}
 use Rattle.numbers.specs.Laws.Machine.{same-bits}
 use Rattle.numbers.specs.Laws.Widths.{weight-width-zero}

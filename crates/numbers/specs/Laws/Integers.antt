@@ -1,9 +1,8 @@
 -- Integers: equality as a test, differences.
-use Prim.Native.Nat.{ℕ}
 use mathlib.Core.Path.{_≡_, refl, sym, _∙_, ap}
-use mathlib.Core.Bool.{Bool, true, false, false≢true}
+use mathlib.Core.Bool.{true, false≢true}
 use borrow.Author.Tests.{eqb-true, eq-eqb}
-use lib.IntN.{ℤ, pos, negsuc, negℤ, _+ℤ_, _-ℤ_, +ℤ-assoc, +ℤ-invr, +ℤ-comm, +ℤ-idr, +ℤ-idl, +ℤ-invl, negℤ-+ℤ, negℤ-negℤ, -ℤ-+ℤ-cancel, +ℤ-negℤ-cancel}
+use lib.IntN.{ℤ, pos, negsuc, negℤ, _+ℤ_, _-ℤ_, +ℤ-assoc, +ℤ-invr, +ℤ-comm, +ℤ-idr, negℤ-+ℤ, negℤ-negℤ, -ℤ-+ℤ-cancel, +ℤ-negℤ-cancel}
 use Rattle.numbers.specs.Ranges.{eqZ}
 
 -- ---- equality

@@ -1,13 +1,13 @@
 -- Laws of the list definitions: runs of numbers, tests over lists.
-use Prim.Native.Nat.{ℕ, zero, suc, _+_, _-_, _≤_, _<_}
+use Prim.Native.Nat.{ℕ, zero, suc, _+_, _-_, _<_}
 use mathlib.Core.Path.{_≡_, refl, sym, _∙_, ap, ap₂}
-use mathlib.Core.Bool.{Bool, true, false, _&&_}
+use mathlib.Core.Bool.{Bool, true}
 use mathlib.Core.List.{List, [], _∷_, _++_, map}
-use native.Mathlib.Nat.{add-zero, add-suc, suc-add, zero-add}
+use native.Mathlib.Nat.{add-zero, add-suc, suc-add}
 use native.Mathlib.Omega.{arith}
 use lib.ListN.{length, getD, take, drop}
 use lib.Seq.{take-nil, drop-nil}
-use Rattle.numbers.specs.Lists.{range, every, keep}
+use Rattle.numbers.specs.Lists.{range, every}
 use Rattle.numbers.specs.Laws.Bools.{both, and-both}
 
 -- ---- runs of numbers

@@ -1,7 +1,7 @@
 -- Powers of two, and places in rows of blocks of a power's size.
 use Prim.Native.Nat.{ℕ, zero, suc, _+_, _-_, _*_, _^_, _≤_, _<_}
 use mathlib.Core.Path.{_≡_, sym, _∙_, ap}
-use native.Mathlib.Nat.{two-pow-succ, le-trans, mul-le-mul-right, suc-mul, mul-assoc, add-mul}
+use native.Mathlib.Nat.{two-pow-succ, mul-le-mul-right, suc-mul, mul-assoc, add-mul}
 use native.Mathlib.Omega.{arith}
 use lib.Dec.{lit<}
 use lib.Pow.{pow-pos, pow-add}

@@ -1,8 +1,8 @@
 -- Both widths are the least: the rail width tells the classes apart, the weight width holds every weight, and none less does.
-use Prim.Native.Nat.{ℕ, zero, suc, _+_, _-_, _^_, _≤_, _<_, max}
-use mathlib.Core.Path.{_≡_, refl, sym, _∙_, ap, subst}
+use Prim.Native.Nat.{ℕ, zero, suc, _-_, _^_, _≤_, _<_}
+use mathlib.Core.Path.{_≡_, refl, sym, _∙_, ap}
 use mathlib.Core.Logic.{_↔_}
-use mathlib.Core.Bool.{Bool, true, false, _&&_, and-true}
+use mathlib.Core.Bool.{true, and-true}
 use mathlib.Core.List.{List, [], _∷_}
 use native.Mathlib.Nat.{le-trans, le-of-lt, le-max-left, le-max-right, lt-of-lt-of-le}
 use native.Mathlib.Omega.{arith}
@@ -10,11 +10,11 @@ use lib.Dec.{leb, ltb, leb·suc-suc}
 use lib.Pow.{suc-ones, pow-mono}
 use lib.IntN.{ℤ, pos, negsuc, negℤ}
 use lib.Signed.{mag}
-use borrow.Author.Tests.{leb-true, le-leb, ltb-true, lt-ltb}
+use borrow.Author.Tests.{leb-true, le-leb, lt-ltb}
 use Rattle.numbers.specs.Lists.{every, least}
 use Rattle.numbers.specs.Ranges.{within, eqZ}
 use Rattle.numbers.specs.Widths.{railWidth, holds, enough, weightWidth}
-use Rattle.numbers.specs.Laws.Bools.{both, and-both}
+use Rattle.numbers.specs.Laws.Bools.{and-both}
 use Rattle.numbers.specs.Laws.Least.{least-passes, least-le}
 use Rattle.numbers.specs.Laws.Powers.{below-power}
 

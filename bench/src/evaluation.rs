@@ -1,0 +1,74 @@
+//! Walk, Run and Expand on the largest record list and the largest images,
+//! beside the second program.
+
+use crate::common::{self, Cascade};
+use crate::{same_method, timing};
+use panstrait_compare::answers;
+use panstrait_reference as reference;
+use std::hint::black_box;
+
+const X: usize = 0b1010_1100_0110;
+
+/// The image of a table with all classes different, by one variable a cell:
+/// the longest image of n variables.
+fn longest_image(n: usize) -> Vec<u8> {
+    let table = common::all_different(n);
+    Cascade::new(n, &table).draft(&vec![1; n]).bytes()
+}
+
+fn walk() {
+    let (built, records) = common::built(12, &common::all_different(12));
+    timing::line(
+        &format!("walk, {} records", records.len() / 4),
+        "reference",
+        || {
+            let _ = black_box(answers::walk(12, built.offset, black_box(&records), X));
+        },
+        || {
+            let _ = black_box(reference::walk(12, built.offset, black_box(&records), X));
+        },
+    );
+}
+
+fn run(n: usize) {
+    let image = longest_image(n);
+    let x = X % (1 << n);
+    timing::line(
+        &format!("run, {} bytes", image.len()),
+        "reference",
+        || {
+            let _ = black_box(answers::run(black_box(&image), x));
+        },
+        || {
+            let _ = black_box(reference::run(black_box(&image), x));
+        },
+    );
+}
+
+/// The table buffers are not cleared between runs: each run writes them whole.
+fn expand() {
+    let image = longest_image(12);
+    let (mut ours, mut theirs) = (vec![0; 4_096], vec![0; 4_096]);
+    let what = format!("expand, {} bytes", image.len());
+    let mut proved = || {
+        let _ = black_box(answers::expand(black_box(&image), &mut ours));
+    };
+    timing::line(&what, "reference", &mut proved, || {
+        let _ = black_box(reference::expand(black_box(&image), &mut theirs));
+    });
+    timing::line(&what, "3 runs, 4096 evaluations", &mut proved, || {
+        for x in [0, X, 4_095] {
+            let _ = black_box(answers::run(black_box(&image), x));
+        }
+        for (x, value) in theirs.iter_mut().enumerate() {
+            *value = same_method::evaluate(black_box(&image), x);
+        }
+    });
+    assert!(ours == theirs);
+}
+
+pub fn measure() {
+    walk();
+    [6, 9, 12].into_iter().for_each(run);
+    expand();
+}

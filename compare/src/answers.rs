@@ -1,0 +1,47 @@
+//! The proved operations with the second program's answers. What is lent for a
+//! value holds a pattern at first, which a refusal must leave.
+
+use crate::proved;
+use panstrait_reference::{Built, Ran, Refusal};
+
+/// What is lent for single values before a call.
+const NUMBER: i32 = 0x5EED_1234;
+const COUNT: usize = 0x5EED_1234_5678;
+
+/// The answer that a result number stands for, and what was lent for values.
+fn answer<T, L: PartialEq>(number: u8, value: T, lent: L, pattern: L) -> Result<T, Refusal> {
+    match number {
+        0 => Ok(value),
+        refusal => {
+            assert!(lent == pattern, "refusal {refusal} changed what was lent");
+            Err(refusal)
+        }
+    }
+}
+
+pub fn build(n: usize, table: &[i32], nodes: &mut [i32]) -> Result<Built, Refusal> {
+    let (mut count, mut offset) = (COUNT, NUMBER);
+    let number = proved::build(n, table, nodes, &mut count, &mut offset);
+    let built = Built {
+        nodes: count,
+        offset,
+    };
+    answer(number, built, (count, offset), (COUNT, NUMBER))
+}
+
+pub fn walk(n: usize, offset: i32, records: &[i32], x: usize) -> Result<i32, Refusal> {
+    let mut value = NUMBER;
+    let number = proved::walk(n, offset, records, x, &mut value);
+    answer(number, value, value, NUMBER)
+}
+
+pub fn run(image: &[u8], x: usize) -> Result<Ran, Refusal> {
+    let (mut value, mut words) = (NUMBER, COUNT);
+    let number = proved::run(image, x, &mut value, &mut words);
+    let ran = Ran { value, words };
+    answer(number, ran, (value, words), (NUMBER, COUNT))
+}
+
+pub fn expand(image: &[u8], table: &mut [i32]) -> Result<(), Refusal> {
+    answer(proved::expand(image, table), (), (), ())
+}

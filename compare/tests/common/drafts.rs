@@ -1,0 +1,155 @@
+//! Images by hand: pseudo-random ones that pass, and ways to damage one.
+
+use super::reference::oracle::{rail, width};
+use super::{Draft, DraftCell, Random, GREATEST, LEAST, MOST_WEIGHT};
+
+/// An image that passes every check, of any shape.
+pub fn passing(random: &mut Random) -> Draft {
+    let most = if random.below(8) == 0 { 12 } else { 6 };
+    let n = 1 + random.below(most);
+    let mut cells = Vec::new();
+    let mut left = n;
+    let mut incoming = 1;
+    while left > 0 {
+        let widest = left.min(12 - rail(incoming));
+        let group = 1 + random.below(widest);
+        left -= group;
+        let outgoing = match (left, random.below(4)) {
+            (0, _) => 1,
+            (_, 0) => 1,
+            _ => 1 + random.below(6),
+        };
+        cells.push(passing_cell(group, incoming, outgoing, random));
+        incoming = outgoing;
+    }
+    let mut draft = Draft {
+        n: n as u8,
+        offset: random.between(LEAST, GREATEST),
+        cells,
+        bits: 0,
+    };
+    draft.bits = total_bits(&draft);
+    draft
+}
+
+fn passing_cell(group: usize, incoming: usize, outgoing: usize, random: &mut Random) -> DraftCell {
+    let most = [0, 1, 300, MOST_WEIGHT][random.below(4)];
+    let words = (0..incoming << group).map(|place| {
+        let first = place & ((1 << group) - 1) == 0;
+        let weight = if first {
+            0
+        } else {
+            random.between(-most, most)
+        };
+        (random.below(outgoing) as u16, weight)
+    });
+    let words: Vec<(u16, i32)> = words.collect();
+    let width = least_width(&words);
+    DraftCell::new(group as u8, incoming as u16, outgoing as u16, width, &words)
+}
+
+fn least_width(words: &[(u16, i32)]) -> u8 {
+    words.iter().map(|w| width(w.1) as u8).max().unwrap_or(0)
+}
+
+/// The bits that the cells' commands say, however wrong they are.
+pub fn total_bits(draft: &Draft) -> u32 {
+    let bits = |cell: &DraftCell| {
+        let address = rail(cell.incoming.into()) + usize::from(cell.group);
+        let word = rail(cell.outgoing.into()) + usize::from(cell.width);
+        (word as u32).wrapping_shl(address as u32)
+    };
+    draft.cells.iter().map(bits).fold(0, u32::wrapping_add)
+}
+
+/// One change, of an operand or of the order; sometimes what depends on it is
+/// put right again, so that a later check is reached.
+pub fn damage(draft: &mut Draft, random: &mut Random) {
+    if draft.cells.is_empty() || random.below(8) == 0 {
+        damage_ends(draft, random);
+        return;
+    }
+    let place = random.below(draft.cells.len());
+    match random.below(6) {
+        0 => damage_cells(draft, place, random),
+        1 | 2 => damage_command(&mut draft.cells[place], random),
+        _ => damage_words(&mut draft.cells[place], random),
+    }
+    if random.below(3) == 0 {
+        let cell = random.below(draft.cells.len().max(1));
+        if let Some(cell) = draft.cells.get_mut(cell) {
+            cell.width = least_width(&cell.words);
+        }
+    }
+    if random.below(2) == 0 {
+        draft.bits = total_bits(draft);
+    }
+}
+
+fn damage_ends(draft: &mut Draft, random: &mut Random) {
+    match random.below(3) {
+        0 => draft.n = [0, 1, 12, 13, 64, 255, draft.n ^ 1][random.below(7)],
+        1 => draft.offset = near(&[LEAST, GREATEST, i32::MIN + 1], random),
+        _ => {
+            draft.bits = draft
+                .bits
+                .wrapping_add(random.below(3) as u32)
+                .wrapping_sub(1)
+        }
+    }
+}
+
+fn damage_cells(draft: &mut Draft, place: usize, random: &mut Random) {
+    match random.below(3) {
+        0 => drop(draft.cells.remove(place)),
+        1 => draft.cells.insert(place, draft.cells[place].clone()),
+        _ => draft.cells.swap(place, 0),
+    }
+}
+
+fn damage_command(cell: &mut DraftCell, random: &mut Random) {
+    match random.below(4) {
+        0 => cell.group = [0, 1, 12, 13, 32, 63, 64, 255, cell.group + 1][random.below(9)],
+        1 => cell.incoming = near_count(cell.incoming, random),
+        2 => cell.outgoing = near_count(cell.outgoing, random),
+        _ => {
+            cell.width = [
+                0,
+                1,
+                25,
+                26,
+                255,
+                cell.width.wrapping_sub(1),
+                cell.width + 1,
+            ][random.below(7)]
+        }
+    }
+}
+
+fn near_count(count: u16, random: &mut Random) -> u16 {
+    let counts = [0, 1, 2_048, 4_095, 4_096, 4_097, u16::MAX];
+    match random.below(2) {
+        0 => counts[random.below(counts.len())],
+        _ => count.wrapping_add(random.below(3) as u16).wrapping_sub(1),
+    }
+}
+
+fn damage_words(cell: &mut DraftCell, random: &mut Random) {
+    if cell.words.is_empty() {
+        return;
+    }
+    let place = random.below(cell.words.len());
+    match random.below(6) {
+        0 => drop(cell.words.remove(place)),
+        1 => cell.words.insert(place, cell.words[place]),
+        2 | 3 => cell.words[place].0 = near_count(cell.outgoing, random),
+        _ => {
+            let limits = [0, MOST_WEIGHT, -MOST_WEIGHT, i32::MIN + 1, i32::MAX - 1];
+            cell.words[place].1 = near(&limits, random);
+        }
+    }
+}
+
+fn near(limits: &[i32], random: &mut Random) -> i32 {
+    limits[random.below(limits.len())] + random.between(-1, 1)
+}

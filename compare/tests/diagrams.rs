@@ -1,0 +1,136 @@
+//! Build: node count, offset, the records, and what is left of the buffer.
+
+mod common;
+
+use common::{node_numbers, tables, Random, GREATEST, LEAST, NUMBER};
+use panstrait_compare::answers;
+use panstrait_reference as reference;
+use panstrait_reference::Refusal;
+
+/// Both programs' answers for a buffer of so many numbers, compared whole.
+fn same_build(n: usize, table: &[i32], room: usize) -> Result<(), Refusal> {
+    let (mut ours, mut theirs) = (vec![NUMBER; room], vec![NUMBER; room]);
+    let answer = answers::build(n, table, &mut ours);
+    assert!(
+        answer == reference::build(n, table, &mut theirs),
+        "n {n}, room {room}: {answer:?} for {table:?}"
+    );
+    assert!(ours == theirs, "n {n}, room {room}: records of {table:?}");
+    answer.map(|_| ())
+}
+
+fn built(n: usize, table: &[i32]) {
+    assert_eq!(same_build(n, table, node_numbers(n) + 5), Ok(()));
+}
+
+#[test]
+fn structured_tables() {
+    for n in 1..=12 {
+        tables::structured(n).iter().for_each(|t| built(n, t));
+    }
+}
+
+#[test]
+fn tables_that_are_hard_to_tell_apart() {
+    for n in 1..=12 {
+        common::adversarial(n).iter().for_each(|t| built(n, t));
+    }
+}
+
+#[test]
+fn random_tables() {
+    let mut random = Random(11);
+    for n in 1..=12 {
+        for _ in 0..if n < 9 { 500 } else { 60 } {
+            built(n, &tables::random(n, &mut random));
+        }
+    }
+}
+
+#[test]
+fn all_small_tables() {
+    for code in 0..4_usize.pow(4) {
+        built(2, &tables::of(2, |x| (code >> (2 * x) & 3) as i32));
+    }
+    for code in 0..3_usize.pow(8) {
+        built(
+            3,
+            &tables::of(3, |x| (code / 3_usize.pow(x as u32) % 3) as i32),
+        );
+    }
+}
+
+#[test]
+fn room_beyond_what_is_needed() {
+    for n in 1..=12 {
+        for table in [common::all_different(n), tables::of(n, |_| -3)] {
+            for more in [0, 1, 2, 3, 4, 5, 8, 1_000] {
+                assert_eq!(same_build(n, &table, node_numbers(n) + more), Ok(()));
+            }
+        }
+    }
+}
+
+#[test]
+fn variables_out_of_range() {
+    for n in [0, 13, 14, 31, 32, 63, 64, 65, 1 << 32, usize::MAX] {
+        for values in [0, 1, 2, 4_096, 8_192] {
+            assert_eq!(same_build(n, &vec![0; values], 40_000), Err(1));
+        }
+    }
+}
+
+#[test]
+fn wrong_table_lengths() {
+    for n in 1..=12 {
+        let size = 1 << n;
+        for wrong in [0, 1, size - 1, size + 1, 2 * size] {
+            if wrong != size {
+                assert_eq!(same_build(n, &vec![0; wrong], node_numbers(n)), Err(2));
+            }
+        }
+    }
+}
+
+#[test]
+fn values_out_of_range() {
+    let wrong = [LEAST - 1, GREATEST + 1, i32::MIN, i32::MAX];
+    for n in 1..=12 {
+        for place in [0, 1, (1 << n) / 2, (1 << n) - 1] {
+            for value in wrong {
+                let table = tables::of(n, |x| if x == place { value } else { 0 });
+                assert_eq!(same_build(n, &table, node_numbers(n)), Err(3));
+            }
+        }
+        for value in [LEAST, GREATEST] {
+            built(n, &tables::of(n, |_| value));
+        }
+    }
+}
+
+#[test]
+fn buffers_that_are_too_short() {
+    for n in 1..=12 {
+        let room = node_numbers(n);
+        for table in [common::all_different(n), tables::of(n, |_| 9)] {
+            for short in [0, 1, room / 2, room - 4, room - 1] {
+                assert_eq!(same_build(n, &table, short), Err(4));
+            }
+        }
+    }
+}
+
+/// Every set of reasons to refuse at once: the first in the paper's order.
+#[test]
+fn several_reasons_at_once() {
+    for reasons in 1..16_usize {
+        let holds = |number: u32| reasons >> (number - 1) & 1 == 1;
+        let n = if holds(1) { 13 } else { 3 };
+        let length = (1 << n) - usize::from(holds(2));
+        let value = if holds(3) { GREATEST + 1 } else { 6 };
+        let table = vec![value; length];
+        let room = node_numbers(n) - usize::from(holds(4));
+        let first = reasons.trailing_zeros() as Refusal + 1;
+        assert_eq!(same_build(n, &table, room), Err(first));
+    }
+}

@@ -1,0 +1,147 @@
+-- Run and Expand of an accepted image, and of one that is refused.
+use Prim.Native.Nat.{ℕ, suc, _+_, _-_, _^_, _≤_, _<_}
+use mathlib.Core.Path.{_≡_, refl, sym, _∙_, ap, ap₂}
+use mathlib.Core.List.{List, [], _∷_, _++_, map, append-assoc, append-nil}
+use native.Mathlib.Nat.{zero-add}
+use native.Mathlib.Numerals.{add-one}
+use native.Mathlib.Omega.{arith}
+use lib.Dec.{ltb, eqb}
+use lib.ListN.{length, getD, drop, set, length-map, length-append, length-drop, drop-of-length-le}
+use lib.Seq.{drop-cons, drop-length, set-at}
+use lib.IntN.{ℤ, pos}
+use borrow.Author.Tests.{lt-ltb, le-ltb, eq-eqb, ne-eqb}
+use Rattle.numbers.specs.Answers.{Answer, accepted, refused, unless, bufferAfter}
+use Rattle.numbers.specs.Lists.{range}
+use Rattle.numbers.specs.Laws.Lists.{length-range, range-suc}
+use Rattle.image.specs.Cells.{Card}
+use Rattle.image.specs.Evaluation.{Accepted, cardRead, valuesTo, Expands}
+use Rattle.image.specs.Reader.{reading}
+use Rattle.image.specs.Run.{runCard, run, cardValues, expand, expandBuffer, expanded}
+use Rattle.image.specs.Laws.Evaluating.{is-card}
+use Rattle.image.specs.Laws.Reading.{done}
+use Rattle.image.specs.declared.Command.{Command}
+use Rattle.image.specs.declared.Expanded.the-variants as expanded-variants
+
+-- ---- what a check says
+
+done-refused : (answer : Answer (List Command)) (k : ℕ) → done answer ≡ refused k → answer ≡ refused k
+unfolding done
+done-refused (accepted commands) k h = absurd (let z : _≡_ {A = ℕ} 0 1 = cc in omega arith)
+done-refused (refused j) k h = let e : j ≡ k = cc in ap refused e
+
+done-accepted : (answer : Answer (List Command)) → done answer ≡ accepted tt → (commands : List Command) × (answer ≡ accepted commands)
+unfolding done
+done-accepted (accepted commands) h = (commands, refl)
+done-accepted (refused k) h = absurd (let z : _≡_ {A = ℕ} 0 1 = cc in omega arith)
+
+module _ (image : List ℕ) where
+  pub check-refuses : (k : ℕ) → done (reading image) ≡ refused k → reading image ≡ refused k
+  check-refuses k h = done-refused (reading image) k h
+
+  pub check-accepts : done (reading image) ≡ accepted tt → Accepted image
+  check-accepts h = let r = done-accepted (reading image) h in record { commands = r .0; read = r .1 }
+
+  -- ---- Run
+
+  pub run-refused : (x k : ℕ) → reading image ≡ refused k → run image x ≡ refused k
+  unfolding run
+  run-refused x k h = rw h
+
+  module _ (a : Accepted image) where
+    accepted-run : (x : ℕ) → run image x ≡ unless (ltb x (2 ^ cardRead image .n)) 7 (accepted (runCard (cardRead image) x))
+    unfolding run
+    accepted-run x = rw (is-card image a, a .read)
+
+    pub run-late : (x : ℕ) → 2 ^ cardRead image .n ≤ x → run image x ≡ refused 7
+    run-late x h = accepted-run x ∙ ap (λ b. unless b 7 (accepted (runCard (cardRead image) x))) (le-ltb x (2 ^ cardRead image .n) h)
+
+    pub run-value : (x : ℕ) → x < 2 ^ cardRead image .n → run image x ≡ accepted (runCard (cardRead image) x)
+    run-value x h = accepted-run x ∙ ap (λ b. unless b 7 (accepted (runCard (cardRead image) x))) (lt-ltb x (2 ^ cardRead image .n) h)
+
+    -- ---- Expand
+
+    accepted-expand : (room : ℕ) → expand image room ≡ unless (eqb room (2 ^ cardRead image .n)) 2 (accepted (cardValues (cardRead image)))
+    unfolding expand
+    accepted-expand room = rw (is-card image a, a .read)
+
+    pub expand-room : (room : ℕ) → (room ≡ 2 ^ cardRead image .n → ⊥) → expand image room ≡ refused 2
+    expand-room room h = accepted-expand room ∙ ap (λ b. unless b 2 (accepted (cardValues (cardRead image)))) (ne-eqb room (2 ^ cardRead image .n) h)
+
+    pub expand-values : (room : ℕ) → room ≡ 2 ^ cardRead image .n → expand image room ≡ accepted (valuesTo (cardRead image) room)
+    unfolding valuesTo cardValues
+    expand-values room h =
+        accepted-expand room
+        ∙ ap (λ b. unless b 2 (accepted (cardValues (cardRead image)))) (eq-eqb room (2 ^ cardRead image .n) h)
+        ∙ ap (λ n. accepted (map (λ x. runCard (cardRead image) x .value) (range 0 n))) (sym h)
+
+  pub expand-refused : (room k : ℕ) → reading image ≡ refused k → expand image room ≡ refused k
+  unfolding expand
+  expand-refused room k h = rw h
+
+  -- ---- the table buffer
+
+  -- A refusal leaves it as it was.
+  pub expands-refused : (buffer : List ℤ) (k : ℕ) → expand image (length buffer) ≡ refused k → Expands image buffer (expanded-variants.Refused k) buffer
+  unfolding expanded expandBuffer
+  expands-refused buffer k h = record { answer = rw h; written = rw h }
+
+pub length-values : (card : Card) (count : ℕ) → length (valuesTo card count) ≡ count
+unfolding valuesTo
+length-values card count = length-map (range 0 count) (λ x. runCard card x .value) ∙ length-range 0 count
+
+-- Else it holds Run's values.
+pub expands-table : (image : List ℕ) → Accepted image → (buffer after : List ℤ) → length buffer ≡ 2 ^ cardRead image .n → after ≡ valuesTo (cardRead image) (length buffer) → Expands image buffer expanded-variants.Table after
+unfolding expanded expandBuffer
+expands-table image a buffer after room e =
+    let h = expand-values image a (length buffer) room in
+    record {
+      answer = rw h;
+      written = (
+          e
+          ∙ sym
+          (ap (λ answer. bufferAfter answer (λ values. values) buffer) h
+          ∙ ap (λ l. valuesTo (cardRead image) (length buffer) ++ l) (drop-of-length-le buffer {i = length (valuesTo (cardRead image) (length buffer))} (let l = length-values (cardRead image) (length buffer) in omega arith))
+          ∙ append-nil (valuesTo (cardRead image) (length buffer)))
+          );
+    }
+
+-- ---- filling the buffer, one value after another
+
+-- The first so many values are written, the rest is as it was.
+pub record Filled (card : Card) (before after : List ℤ) (x : ℕ) : Type 0 where
+  pub within : x ≤ length before
+  pub same : length after ≡ length before
+  pub written : after ≡ valuesTo card x ++ drop x before
+
+values-suc : (card : Card) (x : ℕ) → valuesTo card (suc x) ≡ valuesTo card x ++ runCard card x .value ∷ []
+unfolding valuesTo
+values-suc card x = ap (map (λ x. runCard card x .value)) (range-suc 0 x) ∙ map-append (range 0 x) ((0 + x) ∷ []) ∙ ap (λ n. map (λ x. runCard card x .value) (range 0 x) ++ runCard card n .value ∷ []) (zero-add x)
+  where
+    map-append : (l m : List ℕ) → map (λ x. runCard card x .value) (l ++ m) ≡ map (λ x. runCard card x .value) l ++ map (λ x. runCard card x .value) m
+    map-append [] m = refl
+    map-append (y ∷ l) m = ap (λ k. runCard card y .value ∷ k) (map-append l m)
+
+module _ (card : Card) (before after : List ℤ) where
+  pub filled-none : Filled card before before 0
+  unfolding valuesTo range
+  filled-none = record { within = omega arith; same = refl; written = refl }
+
+  pub filled-more : (x : ℕ) → x < length before → Filled card before after x → Filled card before (set after x (runCard card x .value)) (x + 1)
+  filled-more x h f =
+      let now : set after x (runCard card x .value) ≡ valuesTo card (x + 1) ++ drop (x + 1) before =
+      ap (λ l. set l x (runCard card x .value)) (f .written ∙ ap (λ l. valuesTo card x ++ l) (drop-cons before x (pos 0) h))
+      ∙ set-at (valuesTo card x) (getD before x (pos 0)) (drop (suc x) before) (runCard card x .value) x (length-values card x)
+      ∙ sym (append-assoc (valuesTo card x) (runCard card x .value ∷ []) (drop (suc x) before))
+      ∙ ap (λ l. l ++ drop (suc x) before) (sym (values-suc card x))
+      ∙ ap (λ n. valuesTo card n ++ drop n before) (sym (add-one x)) in
+      record {
+        within = omega arith;
+        same = ap length now ∙ length-append (valuesTo card (x + 1)) (drop (x + 1) before) ∙ ap₂ _+_ (length-values card (x + 1)) (length-drop (x + 1) before) ∙ (let e : x + 1 + (length before - (x + 1)) ≡ length before = omega arith in e);
+        written = now;
+      }
+
+  pub filled-all : (x : ℕ) → length before ≤ x → Filled card before after x → after ≡ valuesTo card (length before)
+  filled-all x h f =
+      let w = f .within in
+      let e : x ≡ length before = omega arith in
+      f .written ∙ ap (λ n. valuesTo card n ++ drop n before) e ∙ ap (λ l. valuesTo card (length before) ++ l) (drop-length before) ∙ append-nil (valuesTo card (length before))

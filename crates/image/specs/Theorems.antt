@@ -1,0 +1,70 @@
+-- What holds of images, of Run and of Expand, for every image, card and X.
+use Prim.Native.Nat.{ℕ, _^_, _<_}
+use mathlib.Core.Path.{_≡_, sym, _∙_}
+use mathlib.Core.List.{List, flatMap}
+use lib.ListN.{length, getD}
+use lib.IntN.{ℤ, pos}
+use Rattle.numbers.specs.Answers.{accepted, mapAnswer}
+use Rattle.image.specs.Bounds.{AreBytes}
+use Rattle.image.specs.Cells.{Card}
+use Rattle.image.specs.Commands.{commandBytes, cardCommands, imageOf, cardOf}
+use Rattle.image.specs.Reader.{reading}
+use Rattle.image.specs.Run.{runCard, run, cardValues, expand}
+use Rattle.image.specs.WellFormed.{WellFormed}
+use Rattle.image.specs.Laws.Cards.{card-of}
+use Rattle.image.specs.Laws.Images.{image-of-commands, commands-of-card, image-of-card, card-keeps}
+use Rattle.image.specs.Laws.Words.{card-words, run-of-card, expand-entry}
+use Rattle.image.specs.Laws.Written.{image-read, image-run, image-expand}
+use Rattle.image.specs.declared.Command.{Command}
+
+-- ---- an accepted image
+
+module _ (image : List ℕ) (commands : List Command) (h : reading image ≡ accepted commands) where
+  -- It has no other reading.
+  pub one-reading : (others : List Command) → reading image ≡ accepted others → commands ≡ others
+  one-reading others g = cc
+
+  -- It is made of its commands' bytes.
+  pub accepted-bytes : AreBytes image → image ≡ flatMap commandBytes commands
+  accepted-bytes = image-of-commands image commands h
+
+  -- Its commands are those of one card, which keeps every rule, and the image is that card's.
+  pub accepted-commands : commands ≡ cardCommands (cardOf commands)
+  accepted-commands = commands-of-card image commands h
+
+  pub accepted-card : WellFormed (cardOf commands)
+  accepted-card = card-keeps image commands h
+
+  pub accepted-image : AreBytes image → image ≡ imageOf (cardOf commands)
+  accepted-image = image-of-card image commands h
+
+  -- Run answers at every X below 2^n, with one word read for each cell.
+  pub accepted-run : (x : ℕ) → x < 2 ^ cardOf commands .n → (run image x ≡ accepted (runCard (cardOf commands) x)) × (runCard (cardOf commands) x .words ≡ length (cardOf commands .cells))
+  accepted-run x l = (run-of-card image commands h x l, card-words (cardOf commands) x)
+
+-- Two images that are read as the same commands are one.
+pub same-commands : (first second : List ℕ) (commands : List Command) → AreBytes first → AreBytes second → reading first ≡ accepted commands → reading second ≡ accepted commands → first ≡ second
+same-commands first second commands f s p q = image-of-commands first commands p f ∙ sym (image-of-commands second commands q s)
+
+-- ---- Expand
+
+-- Expand's entry X is Run's value at X.
+pub expand-is-run : (image : List ℕ) (room : ℕ) (values : List ℤ) → expand image room ≡ accepted values → (x : ℕ) → x < length values → mapAnswer (λ result. result .value) (run image x) ≡ accepted (getD values x (pos 0))
+expand-is-run = expand-entry
+
+-- ---- the image of a card
+
+-- The image of a card that keeps the rules is accepted, and read as the card's commands.
+pub card-image : (card : Card) → WellFormed card → reading (imageOf card) ≡ accepted (cardCommands card)
+card-image = image-read
+
+-- A card's commands describe that card.
+pub card-described : (card : Card) → cardOf (cardCommands card) ≡ card
+card-described = card-of
+
+-- Run of its image is the card's answer, Expand its values.
+pub card-run : (card : Card) → WellFormed card → (x : ℕ) → x < 2 ^ card .n → run (imageOf card) x ≡ accepted (runCard card x)
+card-run = image-run
+
+pub card-expand : (card : Card) → WellFormed card → expand (imageOf card) (2 ^ card .n) ≡ accepted (cardValues card)
+card-expand = image-expand

@@ -147,9 +147,9 @@ fn list_fits(n: usize, records: &[i32]) -> bool
 }
 
 // What reading a variable at a node gives: a weight, and the next node.
-pub struct Edge {
-    pub weight: i32,
-    pub node: usize,
+struct Edge {
+    weight: i32,
+    node: usize,
 }
 
 // The edge that X takes from node k at variable i, or none where k is node 0 or a record of another variable.
@@ -244,11 +244,11 @@ fn block_branches(table: &[i32], i: usize, j: usize) -> bool
 }
 
 // What Build learns of a class: the nodes of its halves, its weight, and whether it branches.
-pub struct Fork {
-    pub low: usize,
-    pub high: usize,
-    pub weight: i32,
-    pub branching: bool,
+struct Fork {
+    low: usize,
+    high: usize,
+    weight: i32,
+    branching: bool,
 }
 
 // The fork of class c of cut h, read at the class's first block.

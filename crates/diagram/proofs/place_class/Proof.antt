@@ -1,23 +1,21 @@
 -- `diagram::place_class` meets its contract. Assumes nothing.
 use Prim.Native.Nat.{suc, _+_, _-_, _*_, _<_}
-use mathlib.Core.Path.{_≡_, sym, _∙_, ap, ap₂, subst}
+use mathlib.Core.Path.{_≡_, sym, _∙_, ap, subst}
 use mathlib.Core.Bool.{true, false}
 use native.Mathlib.Numerals.{add-one}
 use native.Mathlib.Omega.{arith}
 use lib.ListN.{set}
 use mir.Syntax.{w32}
 use mir.Val.{ofZ, toZ}
-use mir.Facts.{toZ-ofZ}
 use borrow.Author.Needs.{needs}
 use borrow.Author.Tests.{not-true, not-false}
 use Rattle.numbers.specs.Lists.{overwritten}
-use Rattle.blocks.specs.Blocks.{lowerHalf, upperHalf}
 use Rattle.blocks.specs.Layout.{cutPlace}
-use Rattle.diagram.specs.Records.{branches, node, recordOf, recordNumbers, recordSize}
+use Rattle.diagram.specs.Records.{branches, recordOf, recordNumbers, recordSize}
 use Rattle.blocks.specs.Classes.{classAt}
 use Rattle.diagram.specs.Building.{forkOf}
 use Rattle.diagram.specs.declared.Fork.{Fork}
-use Rattle.diagram.specs.Laws.Forks.{cut-fits, class-row-place, fork-small, fork-weight-fits}
+use Rattle.diagram.specs.Laws.Forks.{cut-fits, class-row-place, fork-record, fork-small, fork-weight-fits}
 use Rattle.diagram.proofs.place_class.Statement.{statement}
 use Rattle.diagram.proofs.place_class.Tie as tie
 
@@ -50,10 +48,10 @@ module _ (c : tie.After-struct-known) where
   -- Its record.
   is-record : record { variable = start .args .n - (start .args .h + 1); low = c .before .fork-at .result .low; high = c .before .fork-at .result .high; weight = toZ w32 (ofZ w32 (c .before .fork-at .result .weight)) }
       ≡ recordOf (start .args .n) (start .args .table .now) (start .args .n - suc (start .args .h)) (classAt (start .args .n) (start .args .table .now) (start .args .h) (start .args .c))
-  unfolding forkOf recordOf
   is-record =
-      ap₂ (λ k f. record { variable = start .args .n - k; low = f .low; high = f .high; weight = toZ w32 (ofZ w32 (f .weight)) }) (add-one (start .args .h)) (c .before .fork-at .ensures)
-      ∙ ap (λ w. record { variable = start .args .n - suc (start .args .h); low = node (start .args .n) (start .args .table .now) (start .args .n - suc (start .args .h)) (lowerHalf (start .args .n - suc (start .args .h)) (classAt (start .args .n) (start .args .table .now) (start .args .h) (start .args .c))); high = node (start .args .n) (start .args .table .now) (start .args .n - suc (start .args .h)) (upperHalf (start .args .n - suc (start .args .h)) (classAt (start .args .n) (start .args .table .now) (start .args .h) (start .args .c))); weight = w }) (toZ-ofZ (fork-weight-fits (start .pre .0)))
+      let a = start .args in
+      ap (λ k. record { variable = a .n - k; low = c .before .fork-at .result .low; high = c .before .fork-at .result .high; weight = toZ w32 (ofZ w32 (c .before .fork-at .result .weight)) }) (add-one (a .h))
+      ∙ fork-record (a .n) (a .table .now) (a .n - suc (a .h)) (classAt (a .n) (a .table .now) (a .h) (a .c)) (c .before .fork-at .result) (c .before .fork-at .ensures) (fork-weight-fits (start .pre .0))
 
 passes : (c : tie.Then1) → branches (start (c .before) .args .n - suc (start (c .before) .args .h)) (classAt (start (c .before) .args .n) (start (c .before) .args .table .now) (start (c .before) .args .h) (start (c .before) .args .c)) ≡ false
 passes c = branching (c .before) ∙ not-true _ (c .if1 .taken)

@@ -97,10 +97,10 @@ record-passes n list h k one l =
     ∙ every-at (recordFits n list) (range 1 (recordCount list)) 0 (both (eqb (length list % recordSize) 0 && leb (length list) (nodeRoom n)) (every (recordFits n list) (range 1 (recordCount list))) h .1) (k - 1) (rw length-range (omega arith))
 
 -- What a record's check says of its edges.
-pub record EdgesFit (list : List ℤ) (k : ℕ) : Type 0 where
-  pub low : childFits list k (lowAt list k) ≡ true
-  pub high : childFits list k (highAt list k) ≡ true
-  pub weight : isWeight (weightAt list k) ≡ true
+record EdgesFit (list : List ℤ) (k : ℕ) : Type 0 where
+  low : childFits list k (lowAt list k) ≡ true
+  high : childFits list k (highAt list k) ≡ true
+  weight : isWeight (weightAt list k) ≡ true
 
 edges-fit : (n : ℕ) (list : List ℤ) (k : ℕ) → recordFits n list k ≡ true → EdgesFit list k
 unfolding recordFits

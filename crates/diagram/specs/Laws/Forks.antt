@@ -10,7 +10,8 @@ use lib.ListN.{length, getD}
 use lib.Pow.{pow-pos, pow-mono}
 use lib.IntN.{ℤ, pos, _-ℤ_}
 use mir.Syntax.{w32}
-use mir.Val.{SFits}
+use mir.Val.{SFits, ofZ, toZ}
+use mir.Facts.{toZ-ofZ}
 use Rattle.numbers.specs.Lists.{every}
 use Rattle.numbers.specs.Ranges.{isValue}
 use Rattle.numbers.specs.Laws.Bounds.{difference-weight}
@@ -22,7 +23,7 @@ use Rattle.blocks.specs.Layout.{cutPlace}
 use Rattle.blocks.specs.Laws.Blocks.{block-at, block-within}
 use Rattle.blocks.specs.Laws.Classes.{class-below, class-stands, class-count-le}
 use Rattle.blocks.specs.Laws.Differences.{differences-again}
-use Rattle.diagram.specs.Records.{branches, node}
+use Rattle.diagram.specs.Records.{branches, node, recordOf}
 use Rattle.blocks.specs.Classes.{classAt}
 use Rattle.diagram.specs.Building.{forkOf, Forking}
 use Rattle.diagram.specs.declared.Fork.{Fork}
@@ -55,6 +56,13 @@ weight-fits table i j values h =
     record { sfits = omega arith }
 
 -- ---- the fork of a class
+
+-- A fork gives the block's record.
+pub fork-record : (n : ℕ) (table : List ℤ) (i : ℕ) (values : List ℤ) (f : Fork) → f ≡ forkOf n table i values → SFits w32 (first (upperHalf i values) -ℤ first (lowerHalf i values)) → record { variable = i; low = f .low; high = f .high; weight = toZ w32 (ofZ w32 (f .weight)) } ≡ recordOf n table i values
+unfolding forkOf recordOf
+fork-record n table i values f e h =
+    ap (λ g. record { variable = i; low = g .low; high = g .high; weight = toZ w32 (ofZ w32 (g .weight)) }) e
+    ∙ ap (λ w. record { variable = i; low = node n table i (lowerHalf i values); high = node n table i (upperHalf i values); weight = w }) (toZ-ofZ h)
 
 module _ {n h c : ℕ} {table : List ℤ} {classRow firstRow row : List ℕ} (f : Forking n h c table classRow firstRow row) where
   open Forking f using (accepted, cut, class, numbered, placed, below)

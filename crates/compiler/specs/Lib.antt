@@ -5,3 +5,4 @@ pub mod Groupings
 pub mod Laws
 pub mod Plan
 pub mod Sizes
+pub mod Theorems

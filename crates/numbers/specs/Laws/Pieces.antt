@@ -1,4 +1,4 @@
--- Shifts that stay within the machine's width, and lists in pieces.
+-- A shift of 1 that stays within the machine's width.
 use Prim.Native.Nat.{ℕ, _*_, _%_, _^_, _<_}
 use mathlib.Core.Path.{_≡_, _∙_}
 use native.Mathlib.Nat.{one-mul}

@@ -1,13 +1,12 @@
 -- Demand 3 over the definitions: Compile's answer, Run and Expand on a compiled image, and the bits that it carries.
 use Prim.Native.Nat.{ℕ, _^_, _≤_, _<_}
-use mathlib.Core.Path.{_≡_, refl, sym, _∙_, ap}
-use mathlib.Core.Bool.{Bool, true, false}
+use mathlib.Core.Path.{_≡_, _∙_, ap}
+use mathlib.Core.Bool.{true}
 use mathlib.Core.List.{List, [], _∷_, _++_, flatMap}
 use lib.ListN.{length, getD}
-use lib.Dec.{leb, eqb}
 use lib.IntN.{ℤ, pos}
 use borrow.Author.Tests.{le-leb, eq-eqb}
-use Rattle.numbers.specs.Answers.{Answer, accepted, refused}
+use Rattle.numbers.specs.Answers.{accepted}
 use Rattle.numbers.specs.Ranges.{isLimit}
 use Rattle.diagram.specs.Accepted.{Accepted}
 use Rattle.diagram.specs.Build.{ofTable}

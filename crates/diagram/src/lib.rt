@@ -38,26 +38,6 @@ pub enum Walked {
 // How many numbers a record has.
 const RECORD_SIZE: usize = 4;
 
-// Whether n is a number of variables.
-fn is_variables(n: usize) -> bool
-    ensures { λ r. ⌜ r ≡ isVariables n ⌝ }
-{
-    if n < 1 {
-        return false;
-    }
-    n <= 12
-}
-
-// Whether a number lies within a range.
-fn is_within(low: i32, high: i32, number: i32) -> bool
-    ensures { λ r. ⌜ r ≡ within «low» «high» «number» ⌝ }
-{
-    if number < low {
-        return false;
-    }
-    number <= high
-}
-
 // Whether a number is one of the first of so many, from 0.
 fn is_below(number: i32, count: usize) -> bool
     requires { ⌜ 1 ≤ count ⌝ }
@@ -113,7 +93,7 @@ fn record_fits(n: usize, records: &[i32], k: usize) -> bool
     if !child_fits(records, k, number_at(records, k, 2)) {
         return false;
     }
-    is_within(-16777215, 16777215, number_at(records, k, 3))
+    numbers::is_within(-16777215, 16777215, number_at(records, k, 3))
 }
 
 // Whether every record does.
@@ -196,10 +176,10 @@ fn walk_value(n: usize, offset: i32, records: &[i32], x: usize) -> i32
 pub fn walk(n: usize, offset: i32, records: &[i32], x: usize) -> Walked
     ensures { λ r. ⌜ walked r ≡ walk n offset (now (records .entry)) x ⌝ }
 {
-    if !is_variables(n) {
+    if !numbers::is_variables(n) {
         return Walked::Refused(1);
     }
-    if !is_within(-8388608, 8388607, offset) {
+    if !numbers::is_within(-8388608, 8388607, offset) {
         return Walked::Refused(5);
     }
     let fits = list_fits(n, records);
@@ -384,7 +364,7 @@ fn value_fits(table: &[i32], x: usize) -> bool
     requires { ⌜ x < length (now table) ⌝ }
     ensures { λ r. ⌜ r ≡ isValue (getD (now (table .entry)) x (pos 0)) ⌝ }
 {
-    is_within(-8388608, 8388607, table[x])
+    numbers::is_within(-8388608, 8388607, table[x])
 }
 
 // Whether every value is.
@@ -405,7 +385,7 @@ fn values_fit(table: &[i32]) -> bool
 pub fn check_table(n: usize, table: &[i32]) -> Checked
     ensures { λ r. ⌜ checked r ≡ tableChecks n (now (table .entry)) ⌝ }
 {
-    if !is_variables(n) {
+    if !numbers::is_variables(n) {
         return Checked::Refused(1);
     }
     if table.len() != numbers::power(n) {

@@ -213,25 +213,13 @@ fn command_at(image: &[u8], at: usize, kind: Kind) -> Command
 
 // ---- the rules
 
-fn within(low: i32, high: i32, number: i32) -> bool
-    ensures { λ r. ⌜ r ≡ Ranges.within low high number ⌝ }
-{
-    if low <= number {
-        return number <= high;
-    }
-    false
-}
-
 fn table_keeps(n: usize, offset: i32) -> bool
     ensures { λ r. ⌜ r ≡ (isVariables n && isValue offset) ⌝ }
 {
-    if n < 1 {
+    if !numbers::is_variables(n) {
         return false;
     }
-    if 12 < n {
-        return false;
-    }
-    within(-8388608, 8388607, offset)
+    numbers::is_within(-8388608, 8388607, offset)
 }
 
 // The rules of a cell but that of its width, which is judged after its last word.
@@ -274,7 +262,7 @@ fn word_keeps(place: Place, class: usize, weight: i32) -> bool
             return false;
         }
     }
-    within(-16777215, 16777215, weight)
+    numbers::is_within(-16777215, 16777215, weight)
 }
 
 fn keeps_rules(place: Place, command: Command) -> bool

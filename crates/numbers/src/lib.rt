@@ -3,6 +3,7 @@ ghost use mathlib.Core.Path.{_≡_};
 ghost use mathlib.Core.List.{[], _∷_};
 ghost use Prim.Native.Nat.{_^_, _<_};
 ghost use lib.Signed.{mag};
+ghost use Rattle.numbers.specs.Ranges.{isVariables, within};
 ghost use Rattle.numbers.specs.Widths.{bitLength, railWidth, weightWidth};
 
 // The number of bits of a magnitude.
@@ -56,4 +57,24 @@ pub fn power(k: usize) -> usize
     ensures { λ r. ⌜ r ≡ 2 ^ k ⌝ }
 {
     1usize << k
+}
+
+// Whether n is a number of variables.
+pub fn is_variables(n: usize) -> bool
+    ensures { λ r. ⌜ r ≡ isVariables n ⌝ }
+{
+    if n < 1 {
+        return false;
+    }
+    n <= 12
+}
+
+// Whether a number lies within a range.
+pub fn is_within(low: i32, high: i32, number: i32) -> bool
+    ensures { λ r. ⌜ r ≡ within low high number ⌝ }
+{
+    if low <= number {
+        return number <= high;
+    }
+    false
 }

@@ -9,7 +9,7 @@ use lib.ListN.{length, getD, drop, drop-of-length-le}
 use lib.Seq.{drop-cons}
 use lib.Dec.{T, leb, ltb, eqb}
 use lib.IntN.{ℤ, pos, negsuc, natAbs}
-use lib.Signed.{mag, ltZ, leZ, nonNeg}
+use lib.Signed.{mag, ltZ, nonNeg}
 use mir.Syntax.{w32, w64}
 use mir.Val.{Fits, SFits, ofZ}
 use mir.Facts.{fits-natAbs, sfits-lit}
@@ -32,14 +32,6 @@ under-range (pos a) high (pos b) h = rw (lt-leb a b (ltb-true b a h))
 under-range (pos a) high (negsuc b) h = refl
 under-range (negsuc a) high (pos b) h = absurd (false≢true h)
 under-range (negsuc a) high (negsuc b) h = rw (lt-leb b a (ltb-true a b h))
-
--- Of what does not, its end decides.
-pub from-range : (low high z : ℤ) → ltZ z low ≡ false → within low high z ≡ leZ z high
-unfolding within
-from-range (pos a) high (pos b) h = rw (le-leb a b (ltb-false b a h))
-from-range (pos a) high (negsuc b) h = absurd (true≢false h)
-from-range (negsuc a) high (pos b) h = refl
-from-range (negsuc a) high (negsuc b) h = rw (le-leb b a (ltb-false a b h))
 
 -- The first of so many numbers from 0.
 pub below-count : (count : ℕ) (z : ℤ) → 1 ≤ count → ltZ z (pos 0) ≡ false → ltb (natAbs z) count ≡ within (pos 0) (pos (count - 1)) z

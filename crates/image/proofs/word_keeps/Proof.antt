@@ -43,8 +43,8 @@ returns-2 c =
     (rw (shifted-one (p .args .place .group) (narrow (p .args .place) (p .pre))) at (c .before .if2 .taken))
     (λ e. c .if3 .taken (ap (ofZ w32) e)))
 
-within-requires : tie.Need-within-requires
-within-requires c κs = search needs
+is-within-requires : tie.Need-is-within-requires
+is-within-requires c κs = search needs
 
 returns-3 : tie.Need-returns-3
 unfolding isWeight
@@ -52,7 +52,7 @@ returns-3 c =
     let p = c .before .before .before .before .before .before in
     let a = p .args in
     let size = shifted-one (a .place .group) (narrow (a .place) (p .pre)) in
-    c .within .ensures
+    c .is-within .ensures
     ∙ ap (within (negℤ (pos 16777215)) (pos 16777215)) (toZ-ofZ (p .fits .weight))
     ∙ sym
     (word-decides (a .place) (a .class) (a .weight) (c .before .before .before .before .if1 .left)
@@ -62,4 +62,4 @@ returns-3 c =
     (c .before .if2 .came)))
 
 pub word-keeps-spec : {M : Type 1} → statement M
-word-keeps-spec = tie.close (tie.spec returns shl-if2 rem-if2 returns-2 within-requires returns-3)
+word-keeps-spec = tie.close (tie.spec returns shl-if2 rem-if2 returns-2 is-within-requires returns-3)

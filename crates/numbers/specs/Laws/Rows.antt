@@ -1,6 +1,6 @@
 -- Rows that grow at the end: what passes a test in two parts and in one element more, and new entries from a place on.
 use Prim.Native.Nat.{ℕ, suc, _+_, _-_, _≤_, _<_}
-use mathlib.Core.Path.{_≡_, refl, sym, _∙_, ap, ap₂}
+use mathlib.Core.Path.{_≡_, sym, _∙_, ap, ap₂}
 use mathlib.Core.Bool.{Bool, true, false}
 use mathlib.Core.List.{List, [], _∷_, _++_, append-assoc, append-nil}
 use native.Mathlib.Nat.{zero-add, add-zero}
@@ -8,7 +8,6 @@ use native.Mathlib.Omega.{arith}
 use lib.ListN.{length, getD, take, drop, set, length-append, take-append-drop, List·getD-append}
 use lib.Seq.{take-suc, split-at, length-take-le, drop-cons, drop-append-add, drop-drop, getD-append-seam, getD-append-add, getD-drop, set-at, sets-eq}
 use Rattle.numbers.specs.Lists.{keep, overwritten}
-use Rattle.numbers.specs.Laws.Bools.{yes-or-no}
 use Rattle.numbers.specs.Laws.Overwriting.{take-overwritten}
 use Rattle.numbers.specs.Laws.Selections.{keep-passed, keep-failed, keep-append}
 

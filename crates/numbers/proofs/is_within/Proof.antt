@@ -1,8 +1,8 @@
--- `image::within` meets its contract. Assumes nothing.
+-- `numbers::is_within` meets its contract. Assumes nothing.
 use mir.Facts.{toZ-ofZ}
 use Rattle.numbers.specs.Ranges.{within}
-use Rattle.image.proofs.within.Statement.{statement}
-use Rattle.image.proofs.within.Tie as tie
+use Rattle.numbers.proofs.is_within.Statement.{statement}
+use Rattle.numbers.proofs.is_within.Tie as tie
 
 returns : tie.Need-returns
 unfolding within
@@ -16,5 +16,5 @@ returns-2 c =
     let f = c .before .fits in
     rw (rw (toZ-ofZ (f .low), toZ-ofZ (f .number)) at (c .if1 .left))
 
-pub within-spec : {M : Type 1} → statement M
-within-spec = tie.close (tie.spec returns returns-2)
+pub is-within-spec : {M : Type 1} → statement M
+is-within-spec = tie.close (tie.spec returns returns-2)

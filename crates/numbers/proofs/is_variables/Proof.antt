@@ -1,8 +1,8 @@
--- `diagram::is_variables` meets its contract. Assumes nothing.
+-- `numbers::is_variables` meets its contract. Assumes nothing.
 use borrow.Author.Tests.{le-leb, lt-leb}
 use Rattle.numbers.specs.Ranges.{isVariables, mostVariables}
-use Rattle.diagram.proofs.is_variables.Statement.{statement}
-use Rattle.diagram.proofs.is_variables.Tie as tie
+use Rattle.numbers.proofs.is_variables.Statement.{statement}
+use Rattle.numbers.proofs.is_variables.Tie as tie
 
 returns : tie.Need-returns
 unfolding isVariables

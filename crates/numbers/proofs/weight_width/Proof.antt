@@ -1,5 +1,5 @@
 -- `numbers::weight_width` meets its contract: one bit more than the greater magnitude has, or none where both weights are 0. Assumes nothing.
-use Prim.Native.Nat.{ℕ, _+_, _≤_, _<_}
+use Prim.Native.Nat.{ℕ, _+_, _^_, _≤_, _<_}
 use mathlib.Core.Path.{_≡_, refl, sym, _∙_, ap}
 use mathlib.Core.Logic.{⊎-elim}
 use mathlib.Core.List.{[], _∷_}
@@ -8,8 +8,8 @@ use native.Mathlib.Numerals.{one-add}
 use native.Mathlib.Omega.{arith}
 use lib.IntN.{ℤ, pos}
 use lib.Signed.{mag}
-use mir.Syntax.{w32, w64}
-use mir.Val.{Fits, SFits, ofZ}
+use mir.Syntax.{w32}
+use mir.Val.{SFits, ofZ}
 use mir.Facts.{fits-of-lt, sfits-lit, toZ-ofZ}
 use borrow.Author.Needs.{needs}
 use Rattle.numbers.specs.Lists.{every}
@@ -30,15 +30,16 @@ magnitude-requires-2 c κs = search needs
 bit-length-requires : tie.Need-bit-length-requires
 bit-length-requires c κs = search needs
 
-length-fits : (m : ℕ) → Fits w32 m → Fits w64 (1 + bitLength m)
-length-fits m h = fits-of-lt (let b = bit-length-least m 32 (h .fits) in omega arith)
+-- A length of at most 32 bits, with one bit more or none, fits.
+small-length : (b m : ℕ) → b ≡ bitLength m → m < 2 ^ 32 → b ≤ 32
+small-length b m e h = let l = bit-length-least m 32 h in omega arith
 
 -- A weight whose bits are 0 is 0.
 zero-bits : (z : ℤ) → SFits w32 z → ofZ w32 z ≡ 0 → z ≡ pos 0
 zero-bits z h e = same-bits w32 z (pos 0) h (sfits-lit tt) e
 
 add-result : tie.Need-add-result
-add-result c = rw (c .bit-length .ensures) (length-fits (c .before .before .magnitude2 .result) (fits-of-lt (c .before .before .magnitude2 .ok)))
+add-result c = fits-of-lt (let b = small-length (c .bit-length .result) (c .before .before .magnitude2 .result) (c .bit-length .ensures) (c .before .before .magnitude2 .ok) in omega arith)
 
 -- The greatest weight has the greater magnitude, so it is not 0.
 returns : tie.Need-returns
@@ -67,7 +68,7 @@ bit-length-requires-2 : tie.Need-bit-length-requires-2
 bit-length-requires-2 c κs = search needs
 
 add-result-2 : tie.Need-add-result-2
-add-result-2 c = rw (c .bit-length2 .ensures) (length-fits (c .before .before .before .before .magnitude .result) (fits-of-lt (c .before .before .before .before .magnitude .ok)))
+add-result-2 c = fits-of-lt (let b = small-length (c .bit-length2 .result) (c .before .before .before .before .magnitude .result) (c .bit-length2 .ensures) (c .before .before .before .before .magnitude .ok) in omega arith)
 
 -- The least weight has the greater magnitude, and one of the two is not 0.
 returns-3 : tie.Need-returns-3

@@ -3,7 +3,7 @@ use Prim.Native.Nat.{ℕ, _-_, _*_, _^_}
 use mathlib.Core.List.{List, map}
 use lib.ListN.{getD, take, drop}
 use lib.IntN.{ℤ, pos, _-ℤ_}
-use Rattle.numbers.specs.Lists.{range}
+use Rattle.numbers.specs.Lists.{numbersFrom}
 
 -- Block j of height i: 2^i values from the j-th multiple of 2^i on.
 unfoldable pub block : List ℤ → ℕ → ℕ → List ℤ
@@ -11,7 +11,7 @@ block table i j = take (2 ^ i) (drop (j * 2 ^ i) table)
 
 -- The blocks of height i of a table over n variables, from the left.
 unfoldable pub blocks : ℕ → List ℤ → ℕ → List (List ℤ)
-blocks n table i = map (block table i) (range 0 (2 ^ (n - i)))
+blocks n table i = map (block table i) (numbersFrom 0 (2 ^ (n - i)))
 
 unfoldable pub first : List ℤ → ℤ
 first values = getD values 0 (pos 0)

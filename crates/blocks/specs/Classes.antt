@@ -2,7 +2,7 @@
 use Prim.Native.Nat.{ℕ, zero, suc, _-_}
 use mathlib.Core.Bool.{Bool, true, false, _&&_}
 use mathlib.Core.List.{List, [], _∷_, _++_, map}
-use lib.ListN.{length, getD}
+use lib.ListN.{length}
 use lib.Dec.{ltb}
 use lib.IntN.{ℤ}
 use Rattle.numbers.specs.Ranges.{eqZ}
@@ -48,7 +48,3 @@ classOf n table h values = numberIn (classes n table h) (differences values)
 -- The rail width at cut h.
 unfoldable pub railAt : ℕ → List ℤ → ℕ → ℕ
 railAt n table h = railWidth (classCount n table h)
-
--- The differences that class c of cut h stands for.
-unfoldable pub classAt : ℕ → List ℤ → ℕ → ℕ → List ℤ
-classAt n table h c = getD (classes n table h) c []

@@ -1,5 +1,6 @@
--- The paper's "Table and blocks", and the classes of "Cuts and grouping". Laws has what is proved of them.
+-- At the top the paper's "Table and blocks", and the classes of "Cuts and grouping". Inner has what inner functions promise and hold,
+-- Laws what is proved of both.
 pub mod Blocks
 pub mod Classes
+pub mod Inner
 pub mod Laws
-pub mod Layout

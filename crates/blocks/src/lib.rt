@@ -6,7 +6,7 @@ ghost use lib.ListN.{length, getD, take, drop};
 ghost use lib.IntN.{pos, _-ℤ_};
 ghost use Rattle.blocks.specs.Blocks.{block, first, differences};
 ghost use Rattle.blocks.specs.Classes.{same, numberIn};
-ghost use Rattle.blocks.specs.Layout.{cutPlace, less, part, partDifferences, PartsWithin, CutRoom, CutClassed, CutsRoom, CutPlaced, AllClassed, countNoted, firstsNoted};
+ghost use Rattle.blocks.specs.Inner.Layout.{cutPlace, less, part, partDifferences, PartsWithin, CutRoom, CutClassed, CutsRoom, CutPlaced, AllClassed, countNoted, firstsNoted};
 
 // A value less a constant, in a width that holds any such difference.
 fn difference(values: &[i32], x: usize, constant: i32) -> i64

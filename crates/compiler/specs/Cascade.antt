@@ -2,7 +2,7 @@
 use Prim.Native.Nat.{ℕ, _+_, _-_, _^_}
 use mathlib.Core.List.{List, [], _∷_, map, flatMap}
 use lib.IntN.{ℤ, _-ℤ_}
-use Rattle.numbers.specs.Lists.{range}
+use Rattle.numbers.specs.Lists.{numbersFrom}
 use Rattle.numbers.specs.Widths.{weightWidth}
 use Rattle.blocks.specs.Blocks.{block, first}
 use Rattle.blocks.specs.Classes.{classes, classCount, classOf}
@@ -16,7 +16,7 @@ wordOf n table h g values v =
 
 -- The words of the cell from cut h to cut h + g: by incoming class, then group value.
 unfoldable pub wordsOf : ℕ → List ℤ → ℕ → ℕ → List Word
-wordsOf n table h g = flatMap (λ values. map (wordOf n table h g values) (range 0 (2 ^ g))) (classes n table h)
+wordsOf n table h g = flatMap (λ values. map (wordOf n table h g values) (numbersFrom 0 (2 ^ g))) (classes n table h)
 
 -- The cell from cut h to cut h + g.
 unfoldable pub cellOf : ℕ → List ℤ → ℕ → ℕ → Cell

@@ -23,12 +23,12 @@ compile n table limit room =
 
 -- The image's length, the node count, and Plan's totals.
 pub record Report : Type 0 where
-  pub length : ℕ
+  pub imageLength : ℕ
   pub nodes : ℕ
   pub totals : Totals
 
 unfoldable pub report : ℕ → List ℤ → List ℕ → Report
-report n table sizes = record { length = length (imageFor n table sizes); nodes = nodeCount n table; totals = totals n table sizes }
+report n table sizes = record { imageLength = length (imageFor n table sizes); nodes = nodeCount n table; totals = totals n table sizes }
 
 unfoldable pub compileAnswer : ℕ → List ℤ → ℕ → ℕ → Answer Report
 compileAnswer n table limit room = mapAnswer (report n table) (compile n table limit room)
@@ -39,5 +39,5 @@ compileBuffer n table limit buffer = bufferAfter (compile n table limit (length 
 
 -- The paper's answer that a value of the enum stands for.
 unfoldable pub outcome : Outcome → Answer Report
-outcome (Image length nodes cells bits) = accepted (record { length = length; nodes = nodes; totals = record { cells = cells; bits = bits } })
+outcome (Image bytes nodes cells bits) = accepted (record { imageLength = bytes; nodes = nodes; totals = record { cells = cells; bits = bits } })
 outcome (Refused number) = refused number

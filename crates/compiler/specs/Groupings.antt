@@ -1,11 +1,13 @@
 -- Groupings, which of them fit, what they cost, and the chosen one: terms of the paper.
-use Prim.Native.Nat.{ℕ, zero, suc, _+_, _-_}
-use mathlib.Core.Bool.{Bool, true, false, _&&_}
+use Prim.Native.Nat.{ℕ, zero, suc, _+_, _-_, _≤_}
+use mathlib.Core.Path.{_≡_}
+use mathlib.Core.Logic.{_⊎_}
+use mathlib.Core.Bool.{Bool, true, false, _&&_, _||_}
 use mathlib.Core.List.{List, [], _∷_, _++_, map, flatMap}
-use lib.Dec.{leb, ltb}
+use lib.Dec.{leb, ltb, eqb}
 use lib.IntN.{ℤ}
 use Rattle.numbers.specs.Answers.{Answer, accepted, refused}
-use Rattle.numbers.specs.Lists.{keep}
+use Rattle.numbers.specs.Lists.{every, keep, sumOf}
 use Rattle.blocks.specs.Classes.{railAt}
 use Rattle.image.specs.Cells.{totalBits}
 use Rattle.compiler.specs.Cascade.{cellsFrom}
@@ -59,3 +61,20 @@ firstCheapest price (sizes ∷ more) = accepted (cheapest price sizes more)
 -- The chosen grouping (the paper's term): of those that fit the first of least cost; 9 where none fits.
 unfoldable pub chosen : ℕ → List ℤ → ℕ → Answer (List ℕ)
 chosen n table limit = firstCheapest (cost n table) (keep (fits n table limit) (groupings n))
+
+-- A grouping of n variables (the paper's term): sizes, each at least 1, with sum n.
+unfoldable pub isGrouping : ℕ → List ℕ → Bool
+isGrouping n sizes = every (leb 1) sizes && eqb (sumOf sizes) n
+
+-- At the first place where the sizes differ, the left one is the wider.
+unfoldable pub widerFirst : List ℕ → List ℕ → Bool
+widerFirst [] right = false
+widerFirst (a ∷ left) [] = false
+widerFirst (a ∷ left) (b ∷ right) = ltb b a || eqb a b && widerFirst left right
+
+-- Of the groupings of a table that fit the limit this one costs least, and among those of equal cost it is the widest first.
+pub record BestGrouping (n : ℕ) (table : List ℤ) (limit : ℕ) (best : List ℕ) : Type 0 where
+  pub grouping : isGrouping n best ≡ true
+  pub fitting : fits n table limit best ≡ true
+  pub least : (sizes : List ℕ) → isGrouping n sizes ≡ true → fits n table limit sizes ≡ true → cost n table best ≤ cost n table sizes
+  pub widest : (sizes : List ℕ) → isGrouping n sizes ≡ true → fits n table limit sizes ≡ true → cost n table sizes ≡ cost n table best → (sizes ≡ best) ⊎ (widerFirst best sizes ≡ true)

@@ -17,9 +17,8 @@ use Rattle.image.specs.Theorems.{card-image, card-run, card-expand}
 use Rattle.image.specs.declared.Command.the-variants as commands
 use Rattle.compiler.specs.Cascade.{cellsFrom, cardFor}
 use Rattle.compiler.specs.Compile.{imageFor, compile}
-use Rattle.compiler.specs.Groupings.{cost, chosen}
+use Rattle.compiler.specs.Groupings.{cost, chosen, isGrouping}
 use Rattle.compiler.specs.Plan.{plan}
-use Rattle.compiler.specs.Sizes.{isGrouping}
 use Rattle.compiler.specs.Laws.Cards.{card-value, card-values}
 use Rattle.compiler.specs.Laws.WellFormed.{card-well-formed}
 

@@ -5,7 +5,7 @@ use mathlib.Core.Path.{_≡_, refl}
 use mathlib.Core.List.{List, [], _∷_, _++_, map, flatMap}
 use lib.IntN.{ℤ, pos, negℤ}
 use Rattle.numbers.specs.Answers.{Answer, accepted, refused, mapAnswer}
-use Rattle.numbers.specs.Lists.{range, every, keep, tally, sum, leastFrom, least}
+use Rattle.numbers.specs.Lists.{numbersFrom, every, keep, tally, sumOf, leastFrom, least}
 use Rattle.numbers.specs.Ranges.{mostVariables, widestAddress, isVariables, isLimit, within, isValue, eqZ}
 use Rattle.numbers.specs.Widths.{railWidth, holds, enough, weightWidth, cellBits}
 use Rattle.blocks.specs.Blocks.{block, blocks, first, lowerHalf, upperHalf, differences}
@@ -20,7 +20,7 @@ use Rattle.compiler.specs.Cascade.{wordOf, wordsOf, cellOf, cellsFrom, cardFor}
 use Rattle.compiler.specs.Groupings.{descending, closing, groupingsWithin, groupings, addressWidth, fitsFrom, fits, cost, cheapest, firstCheapest, chosen}
 use Rattle.compiler.specs.Plan.{plan}
 use Rattle.compiler.specs.Compile.{imageFor, compile}
-use Rattle.listing.specs.Text.{ascii, digits, decimal, fields, line}
+use Rattle.listing.specs.Text.{ascii, decimalDigits, decimal, fields, line}
 use Rattle.listing.specs.Listing.{imageRoom, tableOf, listed, nodeLine, nodeLines, cellLine, tableText, answerText, listing}
 
 -- What a case asks.
@@ -100,5 +100,5 @@ cases =
 
 -- Every case's answer is the paper's.
 checked-values : map (λ c. answer (c .question)) cases ≡ map (λ c. c .expected) cases
-unfolding cases asks answer numbers text figure smallImage cellNumbers planNumbers range every keep tally sum leastFrom least mostVariables widestAddress isVariables isLimit within isValue eqZ railWidth holds enough weightWidth cellBits block blocks first lowerHalf upperHalf differences same numberIn learn learnAll distinct classes classCount classOf railAt branches kinds recordsBelow node recordOf recordsAt records recordNumbers recordSize offset nodeCount ofTable nodeRoom build buildAnswer stepAt isJump jumps risingKinds nodeBound bigEndian signedBytes number unsignedAt signedAt bitsOf totalBits commandBytes wordCommand cellCommands cardCommands imageOf wordOf wordsOf cellOf cellsFrom cardFor descending closing groupingsWithin groupings addressWidth fitsFrom fits cost cheapest firstCheapest chosen plan imageFor compile ascii digits decimal fields line imageRoom tableOf listed nodeLine nodeLines cellLine tableText answerText listing flatMap
+unfolding cases asks answer numbers text figure smallImage cellNumbers planNumbers numbersFrom every keep tally sumOf leastFrom least mostVariables widestAddress isVariables isLimit within isValue eqZ railWidth holds enough weightWidth cellBits block blocks first lowerHalf upperHalf differences same numberIn learn learnAll distinct classes classCount classOf railAt branches kinds recordsBelow node recordOf recordsAt records recordNumbers recordSize offset nodeCount ofTable nodeRoom build buildAnswer stepAt isJump jumps risingKinds nodeBound bigEndian signedBytes number unsignedAt signedAt bitsOf totalBits commandBytes wordCommand cellCommands cardCommands imageOf wordOf wordsOf cellOf cellsFrom cardFor descending closing groupingsWithin groupings addressWidth fitsFrom fits cost cheapest firstCheapest chosen plan imageFor compile ascii decimalDigits decimal fields line imageRoom tableOf listed nodeLine nodeLines cellLine tableText answerText listing flatMap
 checked-values = refl

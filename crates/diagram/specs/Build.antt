@@ -11,8 +11,6 @@ use Rattle.numbers.specs.Ranges.{isVariables, isValue}
 use Rattle.diagram.specs.Records.{Record, records, recordNumbers, recordSize, offset, nodeCount}
 use Rattle.diagram.specs.declared.Built.{Built}
 use Rattle.diagram.specs.declared.Built.the-variants.{Diagram, Refused}
-use Rattle.diagram.specs.declared.Checked.{Checked}
-use Rattle.diagram.specs.declared.Checked.the-variants.{Passed, Refused as Unfit}
 
 -- The checks on a table that Build, Plan and Compile share, in their order: 1, 2, 3.
 unfoldable pub ofTable : {A : Type 0} → ℕ → List ℤ → Answer A → Answer A
@@ -21,10 +19,6 @@ ofTable n table rest =
     (unless (eqb (length table) (2 ^ n)) 2
     (unless (every isValue table) 3
     rest))
-
--- What those checks alone answer.
-unfoldable pub tableChecks : ℕ → List ℤ → Answer Unit
-tableChecks n table = ofTable n table (accepted tt)
 
 -- The numbers that a node buffer must have room for: those of 2^n - 1 records.
 unfoldable pub nodeRoom : ℕ → ℕ
@@ -55,8 +49,3 @@ built (Refused number) = refused number
 pub record Builds (n : ℕ) (table buffer : List ℤ) (answer : Built) (buffer′ : List ℤ) : Type 0 where
   pub answered : built answer ≡ buildAnswer n table (length buffer)
   pub left : buffer′ ≡ buildBuffer n table buffer
-
--- The paper's answer that the outcome of the checks on a table stands for.
-unfoldable pub checked : Checked → Answer Unit
-checked Passed = accepted tt
-checked (Unfit number) = refused number

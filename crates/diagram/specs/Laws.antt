@@ -1,9 +1,11 @@
 -- Laws about the definitions of this crate, which proofs cite.
 pub mod Alike
 pub mod AllRecords
+pub mod Branching
 pub mod BranchingClasses
 pub mod Builds
 pub mod Checks
+pub mod Counting
 pub mod CutRecords
 pub mod Edges
 pub mod Fits

@@ -1,13 +1,11 @@
--- The paper's "Diagram", the operations Build and Walk, and the node bound. Theorems has what the demands ask of them.
-pub mod Accepted
-pub mod Bound
-pub mod Branching
-pub mod Build
-pub mod Building
-pub mod Counting
-pub mod Edges
-pub mod Laws
-pub mod NodeBound
+-- At the top the paper's "Diagram", the operations Build and Walk, and what the demands ask of them. Inner has what inner functions
+-- promise and hold, Laws what is proved of both.
 pub mod Records
-pub mod Theorems
+pub mod Build
 pub mod Walk
+pub mod Accepted
+pub mod Theorems
+pub mod Bound
+pub mod NodeBound
+pub mod Inner
+pub mod Laws

@@ -4,7 +4,7 @@ use mathlib.Core.Bool.{Bool, true, false, not}
 use mathlib.Core.List.{List, [], _∷_, map, flatMap}
 use lib.ListN.{length}
 use lib.IntN.{ℤ, pos, _-ℤ_}
-use Rattle.numbers.specs.Lists.{range, keep}
+use Rattle.numbers.specs.Lists.{numbersFrom, keep}
 use Rattle.blocks.specs.Blocks.{blocks, first, lowerHalf, upperHalf, differences}
 use Rattle.blocks.specs.Classes.{same, numberIn, distinct}
 
@@ -47,7 +47,7 @@ recordsAt n table i = map (recordOf n table i) (kinds n table i)
 
 -- All records, by rising height; record number k, from 1, stands at place k - 1.
 unfoldable pub records : ℕ → List ℤ → List Record
-records n table = flatMap (recordsAt n table) (range 0 n)
+records n table = flatMap (recordsAt n table) (numbersFrom 0 n)
 
 -- A record's numbers, as a buffer has them.
 unfoldable pub recordNumbers : Record → List ℤ

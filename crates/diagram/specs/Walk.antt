@@ -7,7 +7,7 @@ use lib.Dec.{leb, ltb, eqb}
 use lib.IntN.{ℤ, pos, natAbs, _+ℤ_}
 use lib.Signed.{ltZ}
 use Rattle.numbers.specs.Answers.{Answer, accepted, refused, unless}
-use Rattle.numbers.specs.Lists.{range, every}
+use Rattle.numbers.specs.Lists.{numbersFrom, every}
 use Rattle.numbers.specs.Ranges.{isVariables, isValue, isWeight, within, eqZ}
 use Rattle.diagram.specs.Records.{recordSize}
 use Rattle.diagram.specs.Build.{nodeRoom}
@@ -49,7 +49,7 @@ recordCount list = length list / recordSize
 -- Walk's check of a record list, refusal 6 where it fails.
 unfoldable pub listFits : ℕ → List ℤ → Bool
 listFits n list =
-    eqb (length list % recordSize) 0 && leb (length list) (nodeRoom n) && every (recordFits n list) (range 1 (recordCount list))
+    eqb (length list % recordSize) 0 && leb (length list) (nodeRoom n) && every (recordFits n list) (numbersFrom 1 (recordCount list))
 
 -- Bit i of X is 1.
 unfoldable pub bitSet : ℕ → ℕ → Bool

@@ -7,7 +7,7 @@ use lib.ListN.{length}
 use lib.Dec.{leb, eqb}
 use lib.IntN.{ℤ}
 use Rattle.numbers.specs.Ranges.{mostVariables}
-use Rattle.blocks.specs.Layout.{allNumbers, allFirsts, allCounts, cutPlace}
+use Rattle.blocks.specs.Inner.Layout.{allNumbers, allFirsts, allCounts, cutPlace}
 
 -- n at most 12, 2^n values, a place for each block of each cut in both rows, and one for each cut's count.
 unfoldable pub sizesFit : ℕ → ℕ → ℕ → ℕ → ℕ → Bool

@@ -1,7 +1,7 @@
 -- Operands: big-endian numbers of fixed width, signed ones in two's complement.
-use Prim.Native.Nat.{ℕ, zero, suc, _+_, _*_, _/_, _%_, _^_}
+use Prim.Native.Nat.{ℕ, zero, suc, _+_, _*_, _/_, _%_, _^_, _<_}
 use mathlib.Core.List.{List, [], _∷_}
-use lib.ListN.{length, take, drop}
+use lib.ListN.{length, getD, take, drop}
 use lib.IntN.{ℤ}
 use mir.Syntax.{w32}
 use mir.Val.{ofZ, toZ}
@@ -27,3 +27,7 @@ unsignedAt image at count = number (take count (drop at image))
 -- The signed operand of 4 bytes at a place.
 unfoldable pub signedAt : List ℕ → ℕ → ℤ
 signedAt image at = toZ w32 (unsignedAt image at 4)
+
+-- Every element is a byte.
+unfoldable pub AreBytes : List ℕ → Type 0
+AreBytes image = (i : ℕ) → getD image i 0 < 256

@@ -2,7 +2,7 @@
 use Prim.Native.Nat.{ℕ}
 use mathlib.Core.List.{List, map}
 use lib.IntN.{ℤ}
-use Rattle.numbers.specs.Lists.{sum}
+use Rattle.numbers.specs.Lists.{sumOf}
 use Rattle.numbers.specs.Widths.{cellBits}
 
 -- A word of a memory: the outgoing class and the weight.
@@ -30,4 +30,4 @@ bitsOf cell = cellBits (cell .incoming) (cell .group) (cell .outgoing) (cell .wi
 
 -- The memory bits of all cells.
 unfoldable pub totalBits : List Cell → ℕ
-totalBits cells = sum (map bitsOf cells)
+totalBits cells = sumOf (map bitsOf cells)

@@ -1,12 +1,11 @@
--- The paper's "Image", and the operations Run and Expand.
-pub mod Bounds
+-- At the top the paper's "Image", and the operations Run and Expand. Inner has what inner functions promise and hold, Laws what is
+-- proved of both.
 pub mod Bytes
 pub mod Cells
 pub mod Commands
-pub mod Evaluation
-pub mod Kinds
-pub mod Laws
 pub mod Reader
 pub mod Run
-pub mod Theorems
 pub mod WellFormed
+pub mod Theorems
+pub mod Inner
+pub mod Laws

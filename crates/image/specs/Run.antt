@@ -1,11 +1,12 @@
 -- Run and Expand: the value that memories and adders give at X, and the words read for it.
 use Prim.Native.Nat.{ℕ, suc, _+_, _-_, _*_, _/_, _%_, _^_}
+use mathlib.Core.Path.{_≡_}
 use mathlib.Core.List.{List, [], _∷_, map}
 use lib.ListN.{length, getD}
 use lib.Dec.{ltb, eqb}
 use lib.IntN.{ℤ, pos, _+ℤ_}
-use Rattle.numbers.specs.Answers.{Answer, accepted, refused, unless, andThen, bufferAfter}
-use Rattle.numbers.specs.Lists.{range}
+use Rattle.numbers.specs.Answers.{Answer, accepted, refused, unless, mapAnswer, andThen, bufferAfter}
+use Rattle.numbers.specs.Lists.{numbersFrom}
 use Rattle.image.specs.Cells.{Word, Cell, Card}
 use Rattle.image.specs.Commands.{cardOf}
 use Rattle.image.specs.Reader.{reading}
@@ -44,7 +45,7 @@ run image x = andThen (reading image) (λ commands. unless (ltb x (2 ^ cardOf co
 
 -- Run's value at every X, in order.
 unfoldable pub cardValues : Card → List ℤ
-cardValues card = map (λ x. runCard card x .value) (range 0 (2 ^ card .n))
+cardValues card = map (λ x. runCard card x .value) (numbersFrom 0 (2 ^ card .n))
 
 -- Expand's answer for a table buffer of so many numbers: the values, or a refusal.
 unfoldable pub expand : List ℕ → ℕ → Answer (List ℤ)
@@ -62,3 +63,8 @@ ran (ran-variants.Refused number) = refused number
 unfoldable pub expanded : Expanded → Answer (Unit {0})
 expanded expanded-variants.Table = accepted tt
 expanded (expanded-variants.Refused number) = refused number
+
+-- Expand's answer and the table buffer, before and after.
+pub record Expands (image : List ℕ) (buffer : List ℤ) (r : Expanded) (after : List ℤ) : Type 0 where
+  pub answer : expanded r ≡ mapAnswer (λ values. tt) (expand image (length buffer))
+  pub written : after ≡ expandBuffer image buffer

@@ -5,7 +5,7 @@ use mathlib.Core.List.{List, flatMap}
 use lib.ListN.{length, getD}
 use lib.IntN.{ℤ, pos}
 use Rattle.numbers.specs.Answers.{accepted, mapAnswer}
-use Rattle.image.specs.Bounds.{AreBytes}
+use Rattle.image.specs.Bytes.{AreBytes}
 use Rattle.image.specs.Cells.{Card}
 use Rattle.image.specs.Commands.{commandBytes, cardCommands, imageOf, cardOf}
 use Rattle.image.specs.Reader.{reading}

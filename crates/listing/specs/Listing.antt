@@ -5,7 +5,7 @@ use lib.ListN.{length, getD}
 use lib.Dec.{leb, eqb}
 use lib.IntN.{ℤ, pos}
 use Rattle.numbers.specs.Answers.{Answer, accepted, refused, unless}
-use Rattle.numbers.specs.Lists.{range}
+use Rattle.numbers.specs.Lists.{numbersFrom}
 use Rattle.numbers.specs.Ranges.{isVariables}
 use Rattle.diagram.specs.Records.{Record, records, recordNumbers, offset, nodeCount}
 use Rattle.image.specs.Bytes.{signedAt}
@@ -20,7 +20,7 @@ imageRoom = 65536
 
 -- The values that follow the first two bytes, 4 bytes each.
 unfoldable pub tableOf : List ℕ → List ℤ
-tableOf input = map (λ j. signedAt input (2 + 4 * j)) (range 0 ((length input - 2) / 4))
+tableOf input = map (λ j. signedAt input (2 + 4 * j)) (numbersFrom 0 ((length input - 2) / 4))
 
 -- The chosen sizes: under two bytes 2; then Compile's order, 2 being a wrong byte count.
 unfoldable pub listed : List ℕ → Answer (List ℕ)

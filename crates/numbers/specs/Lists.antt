@@ -2,12 +2,12 @@
 use Prim.Native.Nat.{ℕ, zero, suc, _+_, _-_}
 use mathlib.Core.Bool.{Bool, true, false, _&&_}
 use mathlib.Core.List.{List, [], _∷_, _++_}
-use lib.ListN.{length, take, drop, replicate}
+use lib.ListN.{length, replicate}
 
 -- As many numbers as count says, from start up.
-unfoldable pub range : ℕ → ℕ → List ℕ
-range start zero = []
-range start (suc count) = start ∷ range (suc start) count
+unfoldable pub numbersFrom : ℕ → ℕ → List ℕ
+numbersFrom start zero = []
+numbersFrom start (suc count) = start ∷ numbersFrom (suc start) count
 
 -- Every element passes the test.
 unfoldable pub every : {A : Type 0} → (A → Bool) → List A → Bool
@@ -23,9 +23,9 @@ keep test (a ∷ l) = elim (test a) [ true ↦ a ∷ keep test l | false ↦ kee
 unfoldable pub tally : {A : Type 0} → (A → Bool) → List A → ℕ
 tally test l = length (keep test l)
 
-unfoldable pub sum : List ℕ → ℕ
-sum [] = 0
-sum (a ∷ l) = a + sum l
+unfoldable pub sumOf : List ℕ → ℕ
+sumOf [] = 0
+sumOf (a ∷ l) = a + sumOf l
 
 -- The first number from start on that passes the test, or the end of so many tries.
 unfoldable pub leastFrom : (ℕ → Bool) → ℕ → ℕ → ℕ
@@ -39,7 +39,3 @@ least test bound = leastFrom test bound 0
 -- A list in an array of so many places: those past its last entry hold the filler.
 unfoldable pub padded : {A : Type 0} → ℕ → A → List A → List A
 padded places filler l = l ++ replicate (places - length l) filler
-
--- A row with new entries from a place on.
-unfoldable pub overwritten : {A : Type 0} → List A → ℕ → List A → List A
-overwritten row at new = take at row ++ (new ++ drop (at + length new) row)

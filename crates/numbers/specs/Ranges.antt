@@ -1,7 +1,6 @@
 -- The ranges of the paper: variables, address limits, values, weights. Integers are compared by tests that compute.
 use Prim.Native.Nat.{ℕ}
 use mathlib.Core.Bool.{Bool, false, _&&_, cond}
-use mathlib.Core.List.{List, [], _∷_}
 use lib.Dec.{leb, eqb}
 use lib.IntN.{ℤ, pos, negsuc, negℤ}
 use lib.Signed.{leZ}
@@ -46,12 +45,3 @@ lesser a b = cond (leZ a b) a b
 
 unfoldable pub greater : ℤ → ℤ → ℤ
 greater a b = cond (leZ a b) b a
-
--- The lesser of a number and all of a list; the greater likewise.
-unfoldable pub lowest : ℤ → List ℤ → ℤ
-lowest low [] = low
-lowest low (z ∷ more) = lowest (lesser low z) more
-
-unfoldable pub highest : ℤ → List ℤ → ℤ
-highest high [] = high
-highest high (z ∷ more) = highest (greater high z) more

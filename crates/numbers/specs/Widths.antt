@@ -2,15 +2,11 @@
 use Prim.Native.Nat.{ℕ, zero, suc, _+_, _-_, _*_, _^_, max}
 use mathlib.Core.Bool.{Bool}
 use mathlib.Core.List.{List, [], _∷_}
-use lib.Dec.{leb, ltb}
+use lib.Dec.{leb}
 use lib.IntN.{ℤ, pos, negℤ}
 use lib.Signed.{mag}
 use Rattle.numbers.specs.Lists.{every, least}
 use Rattle.numbers.specs.Ranges.{within, eqZ}
-
--- The least number of bits that holds a number, unsigned.
-unfoldable pub bitLength : ℕ → ℕ
-bitLength number = least (λ k. ltb number (2 ^ k)) number
 
 -- Rail width (the paper's term): the least number of bits that tells so many classes apart.
 unfoldable pub railWidth : ℕ → ℕ

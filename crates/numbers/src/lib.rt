@@ -3,8 +3,9 @@ ghost use mathlib.Core.Path.{_≡_};
 ghost use mathlib.Core.List.{[], _∷_};
 ghost use Prim.Native.Nat.{_^_, _<_};
 ghost use lib.Signed.{mag};
-ghost use Rattle.numbers.specs.Ranges.{isVariables, within};
-ghost use Rattle.numbers.specs.Widths.{bitLength, railWidth, weightWidth};
+ghost use Rattle.numbers.specs.Ranges.{isVariables, within, lesser, greater};
+ghost use Rattle.numbers.specs.Inner.Bits.{bitLength};
+ghost use Rattle.numbers.specs.Widths.{railWidth, weightWidth};
 
 // The number of bits of a magnitude.
 pub fn bit_length(magnitude: u32) -> usize
@@ -77,4 +78,18 @@ pub fn is_within(low: i32, high: i32, number: i32) -> bool
         return number <= high;
     }
     false
+}
+
+// The lesser of two numbers.
+pub fn lesser_of(a: i32, b: i32) -> i32
+    ensures { λ r. ⌜ r ≡ lesser a b ⌝ }
+{
+    if a <= b { a } else { b }
+}
+
+// The greater of two numbers.
+pub fn greater_of(a: i32, b: i32) -> i32
+    ensures { λ r. ⌜ r ≡ greater a b ⌝ }
+{
+    if a <= b { b } else { a }
 }

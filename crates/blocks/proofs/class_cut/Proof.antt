@@ -9,7 +9,7 @@ use mir.Facts.{fits-of-lt}
 use borrow.Author.Needs.{scaled-fits}
 use Rattle.blocks.specs.Blocks.{differences}
 use Rattle.blocks.specs.Classes.{numberIn}
-use Rattle.blocks.specs.Layout.{part, partDifferences, PartsWithin, countNoted, firstsNoted}
+use Rattle.blocks.specs.Inner.Layout.{part, partDifferences, PartsWithin, countNoted, firstsNoted}
 use Rattle.blocks.specs.Laws.Cut.{CutSoFar, cut-start, cut-few, cut-parts, cut-next, cut-done}
 use Rattle.blocks.proofs.class_cut.Statement.{statement}
 use Rattle.blocks.proofs.class_cut.Tie as tie

@@ -5,7 +5,7 @@ use native.Mathlib.Omega.{arith}
 use lib.ListN.{take, drop}
 use Rattle.blocks.specs.Blocks.{differences}
 use Rattle.blocks.specs.Classes.{numberIn}
-use Rattle.blocks.specs.Layout.{part, partDifferences}
+use Rattle.blocks.specs.Inner.Layout.{part, partDifferences}
 use borrow.Author.Needs.{needs}
 use Rattle.blocks.proofs.class_of_part.Statement.{statement}
 use Rattle.blocks.proofs.class_of_part.Tie as tie

@@ -7,7 +7,7 @@ use lib.ListN.{length, getD}
 use borrow.Author.Needs.{scaled-fits}
 use Rattle.blocks.specs.Blocks.{differences}
 use Rattle.blocks.specs.Classes.{same}
-use Rattle.blocks.specs.Layout.{partDifferences}
+use Rattle.blocks.specs.Inner.Layout.{partDifferences}
 use Rattle.blocks.specs.Laws.Searching.{Passed, none-passed, one-passed, found-at, all-passed, length-parts, part-at}
 use Rattle.blocks.proofs.find_class.Statement.{statement}
 use Rattle.blocks.proofs.find_class.Tie as tie

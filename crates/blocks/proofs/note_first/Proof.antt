@@ -3,7 +3,7 @@ use mathlib.Core.Path.{refl}
 use native.Mathlib.Omega.{arith}
 use lib.ListN.{length-set}
 use borrow.Author.Tests.{eq-eqb, ne-eqb}
-use Rattle.blocks.specs.Layout.{countNoted, firstsNoted}
+use Rattle.blocks.specs.Inner.Layout.{countNoted, firstsNoted}
 use borrow.Author.Needs.{needs}
 use Rattle.blocks.proofs.note_first.Statement.{statement}
 use Rattle.blocks.proofs.note_first.Tie as tie

@@ -8,7 +8,7 @@ use mir.Facts.{toZ-ofZ}
 use borrow.Author.Needs.{needs}
 use Rattle.blocks.specs.Blocks.{first, differences}
 use Rattle.blocks.specs.Classes.{same}
-use Rattle.blocks.specs.Layout.{less}
+use Rattle.blocks.specs.Inner.Layout.{less}
 use Rattle.blocks.specs.Laws.Comparing.{less-first}
 use Rattle.blocks.proofs.same_differences.Statement.{statement}
 use Rattle.blocks.proofs.same_differences.Tie as tie

@@ -10,7 +10,7 @@ use mir.Val.{SFits, ofZ, toZ}
 use mir.Facts.{toZ-ofZ}
 use Rattle.numbers.specs.Laws.Machine.{same-bits}
 use Rattle.blocks.specs.Classes.{same}
-use Rattle.blocks.specs.Layout.{less}
+use Rattle.blocks.specs.Inner.Layout.{less}
 use Rattle.blocks.specs.Laws.Comparing.{length-less, less-at, unlike-lengths, equal-here, unlike-here, all-equal}
 use Rattle.blocks.proofs.same_less.Statement.{statement}
 use Rattle.blocks.proofs.same_less.Tie as tie

@@ -5,7 +5,7 @@ use native.Mathlib.Omega.{arith}
 use lib.ListN.{take, drop}
 use Rattle.blocks.specs.Blocks.{differences}
 use Rattle.blocks.specs.Classes.{same}
-use Rattle.blocks.specs.Layout.{part}
+use Rattle.blocks.specs.Inner.Layout.{part}
 use borrow.Author.Needs.{needs}
 use Rattle.blocks.proofs.same_part.Statement.{statement}
 use Rattle.blocks.proofs.same_part.Tie as tie

@@ -8,13 +8,13 @@ use native.Mathlib.Omega.{arith}
 use lib.ListN.{length, take, set, length-set}
 use lib.Seq.{take-length, take-suc-set}
 use lib.IntN.{ℤ}
-use Rattle.numbers.specs.Lists.{range, overwritten}
-use Rattle.numbers.specs.Laws.Lists.{range-suc}
+use Rattle.numbers.specs.Lists.{numbersFrom}
+use Rattle.numbers.specs.Inner.Rows.{overwritten}
+use Rattle.numbers.specs.Laws.Lists.{range-suc, map-append}
 use Rattle.numbers.specs.Laws.Overwriting.{take-overwritten, length-overwritten}
 use Rattle.numbers.specs.Laws.Selections.{flatMap-append}
-use Rattle.numbers.specs.Laws.Lists.{map-append}
 use Rattle.blocks.specs.Classes.{classCount}
-use Rattle.blocks.specs.Layout.{cutNumbers, cutFirsts, allNumbers, allFirsts, allCounts, cutPlace, CutsRoom, CutPlaced, AllClassed}
+use Rattle.blocks.specs.Inner.Layout.{cutNumbers, cutFirsts, allNumbers, allFirsts, allCounts, cutPlace, CutsRoom, CutPlaced, AllClassed}
 use Rattle.blocks.specs.Laws.Cuts.{length-cut-numbers, length-cut-firsts, cut-end, cut-within}
 
 -- The rows while the cuts before h are classed.
@@ -22,25 +22,25 @@ pub record CutsSoFar (n : ℕ) (table : List ℤ) (h : ℕ) (classes firsts coun
   pub inside : h ≤ suc n
   pub rows : CutsRoom n table classes firsts
   pub countRow : length counts ≡ suc n
-  pub numbered : take (cutPlace h) classes ≡ flatMap (cutNumbers n table) (range 0 h)
-  pub placed : take (cutPlace h) firsts ≡ flatMap (cutFirsts n table) (range 0 h)
-  pub counted : take h counts ≡ map (classCount n table) (range 0 h)
+  pub numbered : take (cutPlace h) classes ≡ flatMap (cutNumbers n table) (numbersFrom 0 h)
+  pub placed : take (cutPlace h) firsts ≡ flatMap (cutFirsts n table) (numbersFrom 0 h)
+  pub counted : take h counts ≡ map (classCount n table) (numbersFrom 0 h)
 
 pub no-cut : (n : ℕ) (table : List ℤ) (classes firsts counts : List ℕ) → CutsRoom n table classes firsts → length counts ≡ suc n → CutsSoFar n table 0 classes firsts counts
-unfolding cutPlace range flatMap
+unfolding cutPlace numbersFrom flatMap
 no-cut n table classes firsts counts rows e =
     record { inside = omega arith; rows = rows; countRow = e; numbered = refl; placed = refl; counted = refl }
 
 -- A run of lists and one more.
-one-more : (f : ℕ → List ℕ) (h : ℕ) → flatMap f (range 0 h) ++ f h ≡ flatMap f (range 0 (suc h))
+one-more : (f : ℕ → List ℕ) (h : ℕ) → flatMap f (numbersFrom 0 h) ++ f h ≡ flatMap f (numbersFrom 0 (suc h))
 unfolding flatMap
 one-more f h =
-    ap (λ l. flatMap f (range 0 h) ++ l) (sym (append-nil (f h)))
-    ∙ sym (flatMap-append f (range 0 h) (h ∷ []))
-    ∙ ap (flatMap f) (ap (λ k. range 0 h ++ k ∷ []) (sym (zero-add h)) ∙ sym (range-suc 0 h))
+    ap (λ l. flatMap f (numbersFrom 0 h) ++ l) (sym (append-nil (f h)))
+    ∙ sym (flatMap-append f (numbersFrom 0 h) (h ∷ []))
+    ∙ ap (flatMap f) (ap (λ k. numbersFrom 0 h ++ k ∷ []) (sym (zero-add h)) ∙ sym (range-suc 0 h))
 
 -- A row with cut h at its place.
-row-grows : (n h : ℕ) (f : ℕ → List ℕ) (row : List ℕ) → h ≤ n → length (f h) ≡ 2 ^ h → length row ≡ cutPlace (suc n) → take (cutPlace h) row ≡ flatMap f (range 0 h) → take (cutPlace (suc h)) (overwritten row (cutPlace h) (f h)) ≡ flatMap f (range 0 (suc h))
+row-grows : (n h : ℕ) (f : ℕ → List ℕ) (row : List ℕ) → h ≤ n → length (f h) ≡ 2 ^ h → length row ≡ cutPlace (suc n) → take (cutPlace h) row ≡ flatMap f (numbersFrom 0 h) → take (cutPlace (suc h)) (overwritten row (cutPlace h) (f h)) ≡ flatMap f (numbersFrom 0 (suc h))
 row-grows n h f row cut l e s =
     ap (λ k. take k (overwritten row (cutPlace h) (f h))) (sym (ap (λ m. cutPlace h + m) l ∙ cut-end n h cut))
     ∙ take-overwritten row (cutPlace h) (f h) (let w = cut-within n h cut in omega arith)
@@ -69,8 +69,8 @@ module _ (n : ℕ) (table : List ℤ) (h : ℕ) (classes firsts counts : List �
         counted =
             take-suc-set counts h count (let r = s .countRow in omega arith)
             ∙ ap₂ (λ l k. l ++ k ∷ []) (s .counted) (p .counted)
-            ∙ sym (map-append (classCount n table) (range 0 h) (h ∷ []))
-            ∙ ap (map (classCount n table)) (ap (λ k. range 0 h ++ k ∷ []) (sym (zero-add h)) ∙ sym (range-suc 0 h));
+            ∙ sym (map-append (classCount n table) (numbersFrom 0 h) (h ∷ []))
+            ∙ ap (map (classCount n table)) (ap (λ k. numbersFrom 0 h ++ k ∷ []) (sym (zero-add h)) ∙ sym (range-suc 0 h));
       })
 
 -- When all cuts are classed, the rows are whole.

@@ -8,14 +8,14 @@ use lib.ListN.{length, getD, take, drop, length-take, length-drop, length-map}
 use lib.Seq.{take-take, drop-drop, take-add, take-all, getD-take, getD-drop, take-length}
 use lib.Pow.{pow-pos, pow-add}
 use lib.IntN.{ℤ, pos}
-use Rattle.numbers.specs.Lists.{range}
+use Rattle.numbers.specs.Lists.{numbersFrom}
 use Rattle.numbers.specs.Laws.Lists.{length-range, drop-take}
 use Rattle.numbers.specs.Laws.Powers.{power-split, part-room, part-of-part}
 use Rattle.blocks.specs.Blocks.{block, blocks, first, lowerHalf, upperHalf}
 
 pub blocks-count : (n : ℕ) (table : List ℤ) (i : ℕ) → length (blocks n table i) ≡ 2 ^ (n - i)
 unfolding blocks
-blocks-count n table i = length-map (range 0 (2 ^ (n - i))) (block table i) ∙ length-range 0 (2 ^ (n - i))
+blocks-count n table i = length-map (numbersFrom 0 (2 ^ (n - i))) (block table i) ∙ length-range 0 (2 ^ (n - i))
 
 -- A block within the table has its whole length.
 pub block-length : (table : List ℤ) (i j : ℕ) → j * 2 ^ i + 2 ^ i ≤ length table → length (block table i j) ≡ 2 ^ i
@@ -39,8 +39,8 @@ block-within n h j cut l =
     omega arith
 
 -- Blocks side by side are one part of the table.
-blocks-side-by-side : (table : List ℤ) (i j count : ℕ) → flatten (map (block table i) (range j count)) ≡ take (count * 2 ^ i) (drop (j * 2 ^ i) table)
-unfolding flatten range block
+blocks-side-by-side : (table : List ℤ) (i j count : ℕ) → flatten (map (block table i) (numbersFrom j count)) ≡ take (count * 2 ^ i) (drop (j * 2 ^ i) table)
+unfolding flatten numbersFrom block
 blocks-side-by-side table i j zero = ap (λ n. take n (drop (j * 2 ^ i) table)) (sym (zero-mul (2 ^ i)))
 blocks-side-by-side table i j (suc count) =
     ap (λ l. block table i j ++ l) (blocks-side-by-side table i (suc j) count)

@@ -8,7 +8,7 @@ use native.Mathlib.Omega.{arith}
 use lib.ListN.{length, getD, take, length-map}
 use lib.Pow.{pow-pos, pow-add}
 use lib.IntN.{ℤ, pos, _-ℤ_}
-use Rattle.numbers.specs.Lists.{range}
+use Rattle.numbers.specs.Lists.{numbersFrom}
 use Rattle.numbers.specs.Laws.Lists.{length-range, getD-range, getD-map}
 use Rattle.numbers.specs.Laws.Powers.{part-room}
 use Rattle.blocks.specs.Blocks.{block, blocks, first, differences}
@@ -33,12 +33,12 @@ module _ (n : ℕ) (table : List ℤ) (h : ℕ) (cut : h ≤ n) where
   unfolding cutDifferences blocks
   cut-at j l =
       getD-map differences (blocks n table (n - h)) j [] [] below
-      ∙ ap differences (getD-map (block table (n - h)) (range 0 (2 ^ (n - (n - h)))) j 0 [] below′ ∙ ap (block table (n - h)) (getD-range 0 (2 ^ (n - (n - h))) j 0 below″ ∙ zero-add j))
+      ∙ ap differences (getD-map (block table (n - h)) (numbersFrom 0 (2 ^ (n - (n - h)))) j 0 [] below′ ∙ ap (block table (n - h)) (getD-range 0 (2 ^ (n - (n - h))) j 0 below″ ∙ zero-add j))
     where
       below″ : j < 2 ^ (n - (n - h))
       below″ = rw (let e : n - (n - h) ≡ h = omega arith in e) l
 
-      below′ : j < length (range 0 (2 ^ (n - (n - h))))
+      below′ : j < length (numbersFrom 0 (2 ^ (n - (n - h))))
       below′ = rw length-range below″
 
       below : j < length (blocks n table (n - h))

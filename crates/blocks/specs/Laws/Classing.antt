@@ -11,7 +11,7 @@ use borrow.Author.Tests.{eq-eqb, ne-eqb}
 use Rattle.numbers.specs.Lists.{padded}
 use Rattle.numbers.specs.Laws.Padding.{take-padded, padded-suc, set-padded}
 use Rattle.blocks.specs.Classes.{numberIn, learn, learnAll, distinct}
-use Rattle.blocks.specs.Layout.{countNoted, firstsNoted, numbersOf, firstsOf}
+use Rattle.blocks.specs.Inner.Layout.{countNoted, firstsNoted, numbersOf, firstsOf}
 use Rattle.blocks.specs.Laws.Known.{number-le, number-at, number-append, number-new, learn-known, learn-new, known-or-new, learnAll-append, number-when-met, distinct-known, distinct-length}
 
 -- What the rows hold after the first j lists.

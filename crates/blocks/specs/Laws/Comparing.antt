@@ -13,7 +13,7 @@ use Rattle.numbers.specs.Laws.Integers.{eqZ-true, eqZ-refl, sub-zero}
 use Rattle.numbers.specs.Laws.Lists.{getD-map, map-same}
 use Rattle.blocks.specs.Blocks.{first, differences}
 use Rattle.blocks.specs.Classes.{same}
-use Rattle.blocks.specs.Layout.{less}
+use Rattle.blocks.specs.Inner.Layout.{less}
 
 pub length-less : (c : ℤ) (values : List ℤ) → length (less c values) ≡ length values
 unfolding less

@@ -10,25 +10,25 @@ use lib.Seq.{ext-getD, getD-take, length-take-le}
 use lib.Dec.{eqb}
 use lib.IntN.{ℤ}
 use Rattle.numbers.specs.Laws.Bools.{yes-or-no}
-use Rattle.numbers.specs.Lists.{range}
+use Rattle.numbers.specs.Lists.{numbersFrom}
 use Rattle.numbers.specs.Laws.Lists.{length-range, getD-range, getD-map}
 use Rattle.blocks.specs.Blocks.{differences}
 use Rattle.blocks.specs.Classes.{numberIn, distinct}
-use Rattle.blocks.specs.Layout.{part, partDifferences, PartsWithin, CutRoom, CutClassed, countNoted, firstsNoted, firstsOf}
+use Rattle.blocks.specs.Inner.Layout.{part, partDifferences, PartsWithin, CutRoom, CutClassed, countNoted, firstsNoted, firstsOf}
 use Rattle.blocks.specs.Laws.Known.{number-at, number-by, Among, distinct-seen}
 use Rattle.blocks.specs.Laws.Searching.{length-parts, part-at}
 use Rattle.blocks.specs.Laws.Classing.{Classed, none-classed, before-length, classed-next, known-places, all-classed}
 
 -- The differences of all blocks of a cut.
 abbrev pub cutLists : List ℤ → ℕ → ℕ → List (List ℤ)
-cutLists table size blocks = partDifferences table size (range 0 blocks)
+cutLists table size blocks = partDifferences table size (numbersFrom 0 blocks)
 
 pub length-cut-lists : (table : List ℤ) (size blocks : ℕ) → length (cutLists table size blocks) ≡ blocks
-length-cut-lists table size blocks = length-parts table size (range 0 blocks) ∙ length-range 0 blocks
+length-cut-lists table size blocks = length-parts table size (numbersFrom 0 blocks) ∙ length-range 0 blocks
 
 pub cut-list-at : (table : List ℤ) (size blocks j : ℕ) → j < blocks → getD (cutLists table size blocks) j [] ≡ differences (part table size j)
 cut-list-at table size blocks j h =
-    part-at table size (range 0 blocks) j (rw length-range h)
+    part-at table size (numbersFrom 0 blocks) j (rw length-range h)
     ∙ ap (λ k. differences (part table size k)) (getD-range 0 blocks j 0 h ∙ zero-add j)
 
 -- The rows while j blocks are classed.

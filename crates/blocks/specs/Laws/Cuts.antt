@@ -8,7 +8,8 @@ use lib.ListN.{length, take, drop, length-map, length-take, length-drop}
 use lib.Pow.{pow-pos, pow-mono}
 use lib.IntN.{ℤ}
 use borrow.Rule.Slice.PartMut.{putMid}
-use Rattle.numbers.specs.Lists.{range, overwritten}
+use Rattle.numbers.specs.Lists.{numbersFrom}
+use Rattle.numbers.specs.Inner.Rows.{overwritten}
 use Rattle.numbers.specs.Ranges.{mostVariables}
 use Rattle.numbers.specs.Laws.Lists.{map-map}
 use Rattle.numbers.specs.Laws.Overwriting.{part-back}
@@ -16,17 +17,17 @@ use Rattle.numbers.specs.Laws.Padding.{length-padded}
 use Rattle.numbers.specs.Laws.Powers.{power-split}
 use Rattle.blocks.specs.Blocks.{block, blocks, differences}
 use Rattle.blocks.specs.Classes.{numberIn, distinct, classes, classCount}
-use Rattle.blocks.specs.Layout.{part, partDifferences, numbersOf, firstsOf, cutNumbers, cutFirsts, cutPlace, CutsRoom, CutPlaced, CutRoom, CutClassed}
+use Rattle.blocks.specs.Inner.Layout.{part, partDifferences, numbersOf, firstsOf, cutNumbers, cutFirsts, cutPlace, CutsRoom, CutPlaced, CutRoom, CutClassed}
 use Rattle.blocks.specs.Laws.Known.{distinct-length}
 use Rattle.blocks.specs.Laws.Blocks.{blocks-count}
 
 module _ (n h : ℕ) (cut : h ≤ n) where
   -- The blocks of cut h are the parts of size 2^(n-h).
-  pub cut-lists-are : (table : List ℤ) → partDifferences table (2 ^ (n - h)) (range 0 (2 ^ h)) ≡ map differences (blocks n table (n - h))
+  pub cut-lists-are : (table : List ℤ) → partDifferences table (2 ^ (n - h)) (numbersFrom 0 (2 ^ h)) ≡ map differences (blocks n table (n - h))
   unfolding partDifferences part blocks block
   cut-lists-are table =
-      ap (λ k. partDifferences table (2 ^ (n - h)) (range 0 (2 ^ k))) (let e : h ≡ n - (n - h) = omega arith in e)
-      ∙ sym (map-map (block table (n - h)) differences (range 0 (2 ^ (n - (n - h)))))
+      ap (λ k. partDifferences table (2 ^ (n - h)) (numbersFrom 0 (2 ^ k))) (let e : h ≡ n - (n - h) = omega arith in e)
+      ∙ sym (map-map (block table (n - h)) differences (numbersFrom 0 (2 ^ (n - (n - h)))))
 
   lists-length : (table : List ℤ) → length (map differences (blocks n table (n - h))) ≡ 2 ^ h
   lists-length table =
@@ -116,8 +117,8 @@ module _ {n h count size : ℕ} {table : List ℤ} {classRow firstRow : List ℕ
       blocks-are : length (lent classRow) ≡ 2 ^ h
       blocks-are = lent-length classRow within-classes ∙ is-count
 
-      same-lists : partDifferences table size (range 0 (length (lent classRow))) ≡ map differences (blocks n table (n - h))
-      same-lists = ap₂ (λ s b. partDifferences table s (range 0 b)) is-size blocks-are ∙ cut-lists-are n h cut table
+      same-lists : partDifferences table size (numbersFrom 0 (length (lent classRow))) ≡ map differences (blocks n table (n - h))
+      same-lists = ap₂ (λ s b. partDifferences table s (numbersFrom 0 b)) is-size blocks-are ∙ cut-lists-are n h cut table
 
       is-numbered : numbered ≡ cutNumbers n table h
       is-numbered = c .numbered ∙ ap numbersOf same-lists

@@ -8,12 +8,12 @@ use lib.ListN.{length, getD, length-map, length-append, List·getD-append}
 use lib.Seq.{getD-append-add}
 use lib.Pow.{pow-pos, pow-mono}
 use lib.IntN.{ℤ}
-use Rattle.numbers.specs.Lists.{range, padded}
+use Rattle.numbers.specs.Lists.{numbersFrom, padded}
 use Rattle.numbers.specs.Laws.Lists.{range-suc, length-range, getD-range, getD-map}
 use Rattle.numbers.specs.Laws.Selections.{flatMap-append, range-add}
 use Rattle.blocks.specs.Blocks.{block, differences}
-use Rattle.blocks.specs.Classes.{classAt, numberIn, distinct, classes, classCount, classOf}
-use Rattle.blocks.specs.Layout.{numbersOf, firstsOf, cutNumbers, cutFirsts, allNumbers, allFirsts, allCounts, cutPlace}
+use Rattle.blocks.specs.Inner.Layout.{classAt, numbersOf, firstsOf, cutNumbers, cutFirsts, allNumbers, allFirsts, allCounts, cutPlace}
+use Rattle.blocks.specs.Classes.{numberIn, distinct, classes, classCount, classOf}
 use Rattle.blocks.specs.Laws.Classes.{cutDifferences, cut-length, cut-at, class-count-le}
 use Rattle.blocks.specs.Laws.Cuts.{length-cut-numbers, length-cut-firsts}
 use Rattle.blocks.specs.Laws.Known.{number-at, number-by, Among, distinct-seen}
@@ -22,30 +22,30 @@ use Rattle.blocks.specs.Laws.Known.{number-at, number-by, Among, distinc
 
 -- Cuts of 2^h places each, one after the other.
 module _ (f : ℕ → List ℕ) (n : ℕ) (sizes : (h : ℕ) → h ≤ n → length (f h) ≡ 2 ^ h) where
-  cuts-length : (h : ℕ) → h ≤ suc n → length (flatMap f (range 0 h)) ≡ cutPlace h
-  unfolding range flatMap cutPlace
+  cuts-length : (h : ℕ) → h ≤ suc n → length (flatMap f (numbersFrom 0 h)) ≡ cutPlace h
+  unfolding numbersFrom flatMap cutPlace
   cuts-length zero l = refl
   cuts-length (suc h) l =
-      ap length (ap (flatMap f) (range-suc 0 h ∙ ap (λ k. range 0 h ++ k ∷ []) (zero-add h)) ∙ flatMap-append f (range 0 h) (h ∷ []))
-      ∙ length-append (flatMap f (range 0 h)) (f h ++ [])
+      ap length (ap (flatMap f) (range-suc 0 h ∙ ap (λ k. numbersFrom 0 h ++ k ∷ []) (zero-add h)) ∙ flatMap-append f (numbersFrom 0 h) (h ∷ []))
+      ∙ length-append (flatMap f (numbersFrom 0 h)) (f h ++ [])
       ∙ ap₂ (λ a b. a + b) (cuts-length h (omega arith)) (ap length (append-nil (f h)) ∙ sizes h (omega arith))
       ∙ (let e : 2 ^ h - 1 + 2 ^ h ≡ 2 ^ suc h - 1 = omega (arith, two-pow-succ h, pow-pos h) in e)
 
-  pub row-length : length (flatMap f (range 0 (suc n))) ≡ cutPlace (suc n)
+  pub row-length : length (flatMap f (numbersFrom 0 (suc n))) ≡ cutPlace (suc n)
   row-length = cuts-length (suc n) (omega arith)
 
-  pub row-at : (h k : ℕ) → h ≤ n → k < 2 ^ h → getD (flatMap f (range 0 (suc n))) (cutPlace h + k) 0 ≡ getD (f h) k 0
-  unfolding range flatMap
+  pub row-at : (h k : ℕ) → h ≤ n → k < 2 ^ h → getD (flatMap f (numbersFrom 0 (suc n))) (cutPlace h + k) 0 ≡ getD (f h) k 0
+  unfolding numbersFrom flatMap
   row-at h k l m =
       ap₂ (λ r a. getD r (a + k) 0) split (sym (cuts-length h (omega arith)))
-      ∙ getD-append-add (flatMap f (range 0 h)) (f h ++ flatMap f (range (suc h) (n - h))) k 0
-      ∙ List·getD-append (f h) (flatMap f (range (suc h) (n - h))) 0 k (rw (sizes h l) m)
+      ∙ getD-append-add (flatMap f (numbersFrom 0 h)) (f h ++ flatMap f (numbersFrom (suc h) (n - h))) k 0
+      ∙ List·getD-append (f h) (flatMap f (numbersFrom (suc h) (n - h))) 0 k (rw (sizes h l) m)
     where
-      split : flatMap f (range 0 (suc n)) ≡ flatMap f (range 0 h) ++ (f h ++ flatMap f (range (suc h) (n - h)))
+      split : flatMap f (numbersFrom 0 (suc n)) ≡ flatMap f (numbersFrom 0 h) ++ (f h ++ flatMap f (numbersFrom (suc h) (n - h)))
       split =
-          ap (λ c. flatMap f (range 0 c)) (let e : suc n ≡ h + suc (n - h) = omega arith in e)
-          ∙ ap (flatMap f) (range-add 0 h (suc (n - h)) ∙ ap (λ s. range 0 h ++ range s (suc (n - h))) (zero-add h))
-          ∙ flatMap-append f (range 0 h) (range h (suc (n - h)))
+          ap (λ c. flatMap f (numbersFrom 0 c)) (let e : suc n ≡ h + suc (n - h) = omega arith in e)
+          ∙ ap (flatMap f) (range-add 0 h (suc (n - h)) ∙ ap (λ s. numbersFrom 0 h ++ numbersFrom s (suc (n - h))) (zero-add h))
+          ∙ flatMap-append f (numbersFrom 0 h) (numbersFrom h (suc (n - h)))
 
 -- A place in a cut is a place in the row.
 pub place-inside : (n h k : ℕ) → h ≤ n → k < 2 ^ h → cutPlace h + k < cutPlace (suc n)
@@ -68,12 +68,12 @@ module _ (n : ℕ) (table : List ℤ) where
 
   pub length-counts : length (allCounts n table) ≡ suc n
   unfolding allCounts
-  length-counts = length-map (range 0 (suc n)) (classCount n table) ∙ length-range 0 (suc n)
+  length-counts = length-map (numbersFrom 0 (suc n)) (classCount n table) ∙ length-range 0 (suc n)
 
   pub count-at : (h : ℕ) → h ≤ n → getD (allCounts n table) h 0 ≡ classCount n table h
   unfolding allCounts
   count-at h l =
-      getD-map (classCount n table) (range 0 (suc n)) h 0 0 (rw length-range (omega arith))
+      getD-map (classCount n table) (numbersFrom 0 (suc n)) h 0 0 (rw length-range (omega arith))
       ∙ ap (classCount n table) (getD-range 0 (suc n) h 0 (omega arith) ∙ zero-add h)
 
   module _ (h : ℕ) (cut : h ≤ n) where

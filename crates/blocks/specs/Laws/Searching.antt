@@ -12,7 +12,7 @@ use lib.IntN.{ℤ}
 use Rattle.numbers.specs.Laws.Lists.{getD-map}
 use Rattle.blocks.specs.Blocks.{differences}
 use Rattle.blocks.specs.Classes.{same, numberIn}
-use Rattle.blocks.specs.Layout.{part, partDifferences}
+use Rattle.blocks.specs.Inner.Layout.{part, partDifferences}
 use Rattle.blocks.specs.Laws.Known.{number-here, number-later}
 
 -- The lists before k are passed over.

@@ -11,7 +11,7 @@ use lib.Dec.{leb, eqb}
 use lib.Pow.{pow-pos, shr-shr, shr-lt, split}
 use lib.IntN.{ℤ, pos, _+ℤ_, _-ℤ_, +ℤ-comm}
 use borrow.Author.Tests.{eqb-true}
-use Rattle.numbers.specs.Lists.{range, every, sum}
+use Rattle.numbers.specs.Lists.{numbersFrom, every, sumOf}
 use Rattle.numbers.specs.Laws.Bools.{both}
 use Rattle.numbers.specs.Laws.Integers.{sub-add}
 use Rattle.numbers.specs.Laws.Lists.{length-range, getD-range, getD-map}
@@ -21,7 +21,7 @@ use Rattle.blocks.specs.Laws.Classes.{class-below, one-class-at-top}
 use Rattle.image.specs.Run.{wordAt, groupValue, runFrom, runCard, cardValues}
 use Rattle.diagram.specs.Accepted.{Accepted}
 use Rattle.compiler.specs.Cascade.{cellOf, cellsFrom, cardFor}
-use Rattle.compiler.specs.Sizes.{isGrouping}
+use Rattle.compiler.specs.Groupings.{isGrouping}
 use Rattle.blocks.specs.Laws.Blocks.{first-of-block}
 use Rattle.compiler.specs.Laws.Words.{word-of-block, word-class, word-weight}
 
@@ -72,8 +72,8 @@ module _ (n : ℕ) (table : List ℤ) (size : length table ≡ 2 ^ n) (x : ℕ) 
       ∙ ap (λ k. record { class = classOf n table (h + g) (block table (n - (h + g)) k); weight = first (block table (n - (h + g)) k) -ℤ first (blockOfX n table x h) }) (x-sub-block h g ends)
 
   -- From cut h on, with the class and the first value of X's block there, the cells left add up to f(X).
-  run-from-cut : (sizes : List ℕ) (h words : ℕ) → h + sum sizes ≡ n → runFrom (n - h) (cellsFrom n table h sizes) x (classOf n table h (blockOfX n table x h)) (record { value = first (blockOfX n table x h); words = words }) ≡ record { value = getD table x (pos 0); words = words + length sizes }
-  unfolding sum runFrom cellsFrom cellOf
+  run-from-cut : (sizes : List ℕ) (h words : ℕ) → h + sumOf sizes ≡ n → runFrom (n - h) (cellsFrom n table h sizes) x (classOf n table h (blockOfX n table x h)) (record { value = first (blockOfX n table x h); words = words }) ≡ record { value = getD table x (pos 0); words = words + length sizes }
+  unfolding sumOf runFrom cellsFrom cellOf
   run-from-cut [] h words e = ap₂ (λ v k. record { value = v; words = k }) single (sym (add-zero words))
     where
       single : first (blockOfX n table x h) ≡ getD table x (pos 0)
@@ -91,9 +91,9 @@ module _ (n : ℕ) (table : List ℤ) (size : length table ≡ 2 ^ n) (x : ℕ) 
       ∙ ap (λ k. record { value = getD table x (pos 0); words = k }) (let one-more : suc words + length sizes ≡ words + suc (length sizes) = omega arith in one-more)
 
 -- The sizes of a grouping add up to n.
-pub grouping-sum : (n : ℕ) (sizes : List ℕ) → isGrouping n sizes ≡ true → sum sizes ≡ n
+pub grouping-sum : (n : ℕ) (sizes : List ℕ) → isGrouping n sizes ≡ true → sumOf sizes ≡ n
 unfolding isGrouping
-grouping-sum n sizes grouping = eqb-true (sum sizes) n (both (every (leb 1) sizes) (eqb (sum sizes) n) grouping .1)
+grouping-sum n sizes grouping = eqb-true (sumOf sizes) n (both (every (leb 1) sizes) (eqb (sumOf sizes) n) grouping .1)
 
 -- At every X the card of a grouping gives f(X), with one word read a cell.
 pub card-value : (n : ℕ) (table : List ℤ) → Accepted n table → (sizes : List ℕ) → isGrouping n sizes ≡ true → (x : ℕ) → x < 2 ^ n → runCard (cardFor n table sizes) x ≡ record { value = getD table x (pos 0); words = length sizes }
@@ -110,20 +110,20 @@ card-value n table accepted sizes grouping x below =
 -- The values of the card at every X, in order, are the table.
 pub card-values : (n : ℕ) (table : List ℤ) → Accepted n table → (sizes : List ℕ) → isGrouping n sizes ≡ true → cardValues (cardFor n table sizes) ≡ table
 unfolding cardValues cardFor
-card-values n table accepted sizes grouping = ext-getD (pos 0) (map f (range 0 (2 ^ n))) table whole each
+card-values n table accepted sizes grouping = ext-getD (pos 0) (map f (numbersFrom 0 (2 ^ n))) table whole each
   where
     f : ℕ → ℤ
     f x = runCard (cardFor n table sizes) x .value
 
-    runs : length (range 0 (2 ^ n)) ≡ 2 ^ n
+    runs : length (numbersFrom 0 (2 ^ n)) ≡ 2 ^ n
     runs = length-range 0 (2 ^ n)
 
-    whole : length (map f (range 0 (2 ^ n))) ≡ length table
-    whole = length-map (range 0 (2 ^ n)) f ∙ runs ∙ sym (accepted .size)
+    whole : length (map f (numbersFrom 0 (2 ^ n))) ≡ length table
+    whole = length-map (numbersFrom 0 (2 ^ n)) f ∙ runs ∙ sym (accepted .size)
 
-    each : (x : ℕ) → x < length (map f (range 0 (2 ^ n))) → getD (map f (range 0 (2 ^ n))) x (pos 0) ≡ getD table x (pos 0)
+    each : (x : ℕ) → x < length (map f (numbersFrom 0 (2 ^ n))) → getD (map f (numbersFrom 0 (2 ^ n))) x (pos 0) ≡ getD table x (pos 0)
     each x l =
         let below : x < 2 ^ n = (let s = accepted .size in omega (arith, whole)) in
-        getD-map f (range 0 (2 ^ n)) x 0 (pos 0) (omega (arith, runs))
+        getD-map f (numbersFrom 0 (2 ^ n)) x 0 (pos 0) (omega (arith, runs))
         ∙ ap f (getD-range 0 (2 ^ n) x 0 below ∙ zero-add x)
         ∙ ap (λ result. result .value) (card-value n table accepted sizes grouping x below)

@@ -12,8 +12,8 @@ use Rattle.numbers.specs.Answers.{Answer, accepted, refused, mapAnswer}
 use Rattle.numbers.specs.Lists.{keep}
 use Rattle.numbers.specs.Laws.Bools.{yes-or-no}
 use Rattle.numbers.specs.Laws.Selections.{keep-append, keep-map, keep-same, keep-none}
-use Rattle.compiler.specs.Groupings.{descending, groupings, cheapest, firstCheapest}
-use Rattle.compiler.specs.Sizes.{widerFirst, priceFrom, cellsFit, cheapestFrom, Choice, noList, costing, noted, offered, tried, choices, choiceAt, sizeOf, sizesFrom, answered}
+use Rattle.compiler.specs.Groupings.{descending, groupings, cheapest, firstCheapest, widerFirst}
+use Rattle.compiler.specs.Inner.Choices.{priceFrom, cellsFit, cheapestFrom, Choice, noList, costing, noted, offered, tried, choices, choiceAt, sizeOf, sizesFrom, answered}
 use Rattle.compiler.specs.Laws.Groupings.{WidestFirst, startingTo, groupings-zero, groupings-suc}
 
 -- ---- the cheaper of two

@@ -1,5 +1,5 @@
 -- The chosen grouping: 9 exactly where none fits; else it fits, costs least, and is the widest first among equals. The choices lead to it.
-use Prim.Native.Nat.{ℕ, _+_, _-_, _≤_}
+use Prim.Native.Nat.{ℕ, _+_, _-_}
 use mathlib.Core.Path.{_≡_, refl, sym, _∙_, ap, ap₂, fun-ext}
 use mathlib.Core.Logic.{_↔_, _⊎_, inl, inr}
 use mathlib.Core.Bool.{true, false, true≢false, _&&_}
@@ -8,22 +8,15 @@ use native.Mathlib.Omega.{arith}
 use lib.Dec.{leb}
 use lib.IntN.{ℤ}
 use Rattle.numbers.specs.Answers.{Answer, accepted, refused}
-use Rattle.numbers.specs.Lists.{keep, sum}
+use Rattle.numbers.specs.Lists.{keep, sumOf}
 use Rattle.numbers.specs.Laws.Bools.{yes-or-no}
 use Rattle.numbers.specs.Laws.Selections.{keep-same, among-kept, kept-among}
 use Rattle.image.specs.Cells.{bitsOf, totalBits}
 use Rattle.compiler.specs.Cascade.{cellOf, cellsFrom}
-use Rattle.compiler.specs.Groupings.{groupings, addressWidth, fitsFrom, fits, cost, firstCheapest, chosen}
-use Rattle.compiler.specs.Sizes.{isGrouping, widerFirst, priceFrom, cellsFit, cheapestFrom, cellPrice, cellFits, costing, sizesFrom, answered, tableChoice}
+use Rattle.compiler.specs.Groupings.{BestGrouping, groupings, addressWidth, fitsFrom, fits, cost, firstCheapest, chosen, isGrouping, widerFirst}
+use Rattle.compiler.specs.Inner.Choices.{priceFrom, cellsFit, cheapestFrom, cellPrice, cellFits, costing, sizesFrom, answered, tableChoice}
 use Rattle.compiler.specs.Laws.Groupings.{grouping-among, among-grouping, groupings-widest-first, widest-kept, wider-one-way}
 use Rattle.compiler.specs.Laws.Cheapest.{first-cheapest-none, first-cheapest-nine, first-cheapest-among, first-cheapest-least, first-cheapest-widest, cheapest-by-choices, choice-cost}
-
--- Of the groupings of a table that fit the limit this one costs least, and among those of equal cost it is the widest first.
-pub record BestGrouping (n : ℕ) (table : List ℤ) (limit : ℕ) (best : List ℕ) : Type 0 where
-  pub grouping : isGrouping n best ≡ true
-  pub fitting : fits n table limit best ≡ true
-  pub least : (sizes : List ℕ) → isGrouping n sizes ≡ true → fits n table limit sizes ≡ true → cost n table best ≤ cost n table sizes
-  pub widest : (sizes : List ℕ) → isGrouping n sizes ≡ true → fits n table limit sizes ≡ true → cost n table sizes ≡ cost n table best → (sizes ≡ best) ⊎ (widerFirst best sizes ≡ true)
 
 module _ (n : ℕ) (table : List ℤ) (limit : ℕ) where
   -- The groupings that fit, in the order of preference.
@@ -96,7 +89,7 @@ module _ (n : ℕ) (table : List ℤ) (limit : ℕ) where
 
 -- The cells' bits from cut h on are the sum of their prices.
 bits-price : (n : ℕ) (table : List ℤ) (h : ℕ) (sizes : List ℕ) → totalBits (cellsFrom n table h sizes) ≡ priceFrom (cellPrice n table) h sizes
-unfolding totalBits cellsFrom sum priceFrom cellPrice
+unfolding totalBits cellsFrom sumOf priceFrom cellPrice
 bits-price n table h [] = refl
 bits-price n table h (g ∷ sizes) = ap (λ rest. bitsOf (cellOf n table h g) + rest) (bits-price n table (h + g) sizes)
 

@@ -10,12 +10,12 @@ use native.Mathlib.Decide.{decLe}
 use lib.ListN.{length}
 use lib.Dec.{leb, ltb, eqb}
 use borrow.Author.Tests.{ltb-true, lt-ltb, le-ltb, leb-true, leb-false, le-leb, lt-leb, eqb-true, eqb-false, eq-eqb, ne-eqb}
-use Rattle.numbers.specs.Lists.{every, keep, tally, sum}
+use Rattle.numbers.specs.Lists.{every, keep, tally, sumOf}
 use Rattle.numbers.specs.Laws.Bools.{yes-or-no, both, and-both}
 use Rattle.numbers.specs.Laws.Selections.{keep-passed, keep-failed, kept-among}
 use Rattle.numbers.specs.Laws.Tallies.{tally-passed, tally-failed, tally-append, tally-none, tally-map, tally-same}
-use Rattle.compiler.specs.Groupings.{descending, closing, groupingsWithin, groupings}
-use Rattle.compiler.specs.Sizes.{sameSizes, isGrouping, occurrences, widerFirst}
+use Rattle.compiler.specs.Groupings.{descending, closing, groupingsWithin, groupings, isGrouping, widerFirst}
+use Rattle.compiler.specs.Inner.Sizes.{sameSizes, occurrences}
 
 -- ---- equal lists of sizes
 
@@ -57,14 +57,14 @@ swap-inner true false false v = refl
 
 -- The rest of a grouping is a grouping of the variables left.
 pub grouping-cons : (m a : ℕ) (rest : List ℕ) → isGrouping m (a ∷ rest) ≡ (leb 1 a && leb a m && isGrouping (m - a) rest)
-unfolding isGrouping every sum
+unfolding isGrouping every sumOf
 grouping-cons m a rest =
-    ap (λ t. leb 1 a && every (leb 1) rest && t) (sum-is a (sum rest) m)
-    ∙ swap-inner (leb 1 a) (every (leb 1) rest) (leb a m) (eqb (sum rest) (m - a))
+    ap (λ t. leb 1 a && every (leb 1) rest && t) (sum-is a (sumOf rest) m)
+    ∙ swap-inner (leb 1 a) (every (leb 1) rest) (leb a m) (eqb (sumOf rest) (m - a))
 
 -- The list of no sizes is a grouping of no variable, and of no more.
 pub grouping-nil : (m : ℕ) → isGrouping m [] ≡ eqb 0 m
-unfolding isGrouping every sum
+unfolding isGrouping every sumOf
 grouping-nil m = refl
 
 -- A grouping has no more sizes than variables.

@@ -10,7 +10,7 @@ use lib.Dec.{leb, eqb}
 use lib.Pow.{pow-mono, pow-add}
 use lib.IntN.{ℤ}
 use borrow.Author.Tests.{leb-true}
-use Rattle.numbers.specs.Lists.{every, sum}
+use Rattle.numbers.specs.Lists.{every, sumOf}
 use Rattle.numbers.specs.Laws.Bools.{both}
 use Rattle.numbers.specs.Laws.Selections.{flatMap-append}
 use Rattle.blocks.specs.Laws.Classes.{class-count-le}
@@ -21,8 +21,7 @@ use Rattle.image.specs.declared.Command.the-variants as commands
 use Rattle.diagram.specs.Accepted.{Accepted}
 use Rattle.compiler.specs.Cascade.{cellOf, cellsFrom, cardFor}
 use Rattle.compiler.specs.Compile.{imageFor}
-use Rattle.compiler.specs.Groupings.{cost}
-use Rattle.compiler.specs.Sizes.{isGrouping}
+use Rattle.compiler.specs.Groupings.{cost, isGrouping}
 use Rattle.compiler.specs.Laws.Cards.{grouping-sum}
 use Rattle.compiler.specs.Laws.Cells.{variables-most, cell-words, cell-bits-most}
 use Rattle.compiler.specs.Laws.Groupings.{grouping-length}
@@ -41,8 +40,8 @@ unfolding flatMap commandBytes cellCommands bigEndian
 cell-length cell = let words = words-length (cell .words) in omega arith
 
 -- Cells take their bytes one after the other.
-cells-length : (cells : List Cell) → length (flatMap commandBytes (flatMap cellCommands cells)) ≡ sum (map (λ cell. 7 + 7 * length (cell .words)) cells)
-unfolding flatMap sum
+cells-length : (cells : List Cell) → length (flatMap commandBytes (flatMap cellCommands cells)) ≡ sumOf (map (λ cell. 7 + 7 * length (cell .words)) cells)
+unfolding flatMap sumOf
 cells-length [] = refl
 cells-length (cell ∷ cells) =
     ap length (flatMap-append commandBytes (cellCommands cell) (flatMap cellCommands cells))
@@ -50,7 +49,7 @@ cells-length (cell ∷ cells) =
     ∙ ap₂ (λ a b. a + b) (cell-length cell) (cells-length cells)
 
 -- The bytes of an image: 6, those of the cells, and 5.
-pub card-length : (card : Card) → length (imageOf card) ≡ 6 + sum (map (λ cell. 7 + 7 * length (cell .words)) (card .cells)) + 5
+pub card-length : (card : Card) → length (imageOf card) ≡ 6 + sumOf (map (λ cell. 7 + 7 * length (cell .words)) (card .cells)) + 5
 unfolding imageOf cardCommands flatMap commandBytes bigEndian signedBytes
 card-length card =
     let end = commands.End (totalBits (card .cells)) in
@@ -61,7 +60,7 @@ card-length card =
     omega arith
 
 -- The bytes of a compiled image.
-pub image-length : (n : ℕ) (table : List ℤ) (sizes : List ℕ) → length (imageFor n table sizes) ≡ 6 + sum (map (λ cell. 7 + 7 * length (cell .words)) (cellsFrom n table 0 sizes)) + 5
+pub image-length : (n : ℕ) (table : List ℤ) (sizes : List ℕ) → length (imageFor n table sizes) ≡ 6 + sumOf (map (λ cell. 7 + 7 * length (cell .words)) (cellsFrom n table 0 sizes)) + 5
 unfolding imageFor cardFor
 image-length n table sizes = card-length (cardFor n table sizes)
 
@@ -73,8 +72,8 @@ module _ (n : ℕ) (table : List ℤ) (accepted : Accepted n table) where
   cell-words-most h g ends = rw (cell-words n table h g, pow-add 2 h g) (mul-le-mul-right (2 ^ g) (class-count-le n table h (omega arith)))
 
   -- The cells from cut h on end at different cuts, so their words are at most 2^(h + 1) + .. + 2^n.
-  cells-length-most : (sizes : List ℕ) (h : ℕ) → every (leb 1) sizes ≡ true → h + sum sizes ≡ n → sum (map (λ cell. 7 + 7 * length (cell .words)) (cellsFrom n table h sizes)) + 7 * h + 7 * 2 ^ suc h ≤ 7 * n + 7 * 2 ^ suc n
-  unfolding sum cellsFrom every
+  cells-length-most : (sizes : List ℕ) (h : ℕ) → every (leb 1) sizes ≡ true → h + sumOf sizes ≡ n → sumOf (map (λ cell. 7 + 7 * length (cell .words)) (cellsFrom n table h sizes)) + 7 * h + 7 * 2 ^ suc h ≤ 7 * n + 7 * 2 ^ suc n
+  unfolding sumOf cellsFrom every
   cells-length-most [] h some e = omega (arith, pow-mono {i = suc h} {j = suc n} (omega arith))
   cells-length-most (g ∷ sizes) h some e =
       let parts = both (leb 1 g) (every (leb 1) sizes) some in
@@ -88,12 +87,12 @@ module _ (n : ℕ) (table : List ℤ) (accepted : Accepted n table) where
   unfolding isGrouping
   image-length-most sizes grouping =
       let few = variables-most n table accepted in
-      let cells = cells-length-most sizes 0 (both (every (leb 1) sizes) (eqb (sum sizes) n) grouping .0) (omega (arith, grouping-sum n sizes grouping)) in
+      let cells = cells-length-most sizes 0 (both (every (leb 1) sizes) (eqb (sumOf sizes) n) grouping .0) (omega (arith, grouping-sum n sizes grouping)) in
       omega (arith, image-length n table sizes, pow-mono {i = suc n} {j = 13} (omega arith))
 
   -- The cells from cut h on have at most 4,096 words of 12 and 25 bits each.
-  cells-bits-most : (sizes : List ℕ) (h : ℕ) → h + sum sizes ≡ n → totalBits (cellsFrom n table h sizes) ≤ 4096 * (12 + 25) * length sizes
-  unfolding sum cellsFrom totalBits
+  cells-bits-most : (sizes : List ℕ) (h : ℕ) → h + sumOf sizes ≡ n → totalBits (cellsFrom n table h sizes) ≤ 4096 * (12 + 25) * length sizes
+  unfolding sumOf cellsFrom totalBits
   cells-bits-most [] h e = omega arith
   cells-bits-most (g ∷ sizes) h e =
       let bits = cell-bits-most n table accepted h g (omega arith) in

@@ -8,14 +8,14 @@ use native.Mathlib.Omega.{arith}
 use lib.Dec.{leb, eqb}
 use lib.IntN.{ℤ}
 use borrow.Author.Tests.{leb-true, eqb-true}
-use Rattle.numbers.specs.Lists.{every, sum}
+use Rattle.numbers.specs.Lists.{every, sumOf}
 use Rattle.numbers.specs.Laws.Bools.{both}
 use Rattle.blocks.specs.Classes.{classCount}
 use Rattle.blocks.specs.Laws.Classes.{one-class-at-top}
 use Rattle.diagram.specs.Accepted.{Accepted}
 use Rattle.image.specs.WellFormed.{noWord, weights, KeepsCell, KeepsCells, WellFormed}
 use Rattle.compiler.specs.Cascade.{cellOf, cellsFrom, cardFor}
-use Rattle.compiler.specs.Sizes.{isGrouping}
+use Rattle.compiler.specs.Groupings.{isGrouping}
 use Rattle.compiler.specs.Laws.Cells.{cell-words, cell-width, cell-outgoing, cell-address, cell-class-below, cell-weight-range, cell-weight-zero, bottom-outgoing, offset-in-range}
 
 module _ (n : ℕ) (table : List ℤ) (accepted : Accepted n table) where
@@ -42,8 +42,8 @@ module _ (n : ℕ) (table : List ℤ) (accepted : Accepted n table) where
   }
 
   -- The cells from cut h down.
-  keeps-cells : (h : ℕ) (sizes : List ℕ) → every (leb 1) sizes ≡ true → h + sum sizes ≡ n → KeepsCells (n - h) (classCount n table h) (cellsFrom n table h sizes)
-  unfolding KeepsCells cellsFrom every sum cellOf
+  keeps-cells : (h : ℕ) (sizes : List ℕ) → every (leb 1) sizes ≡ true → h + sumOf sizes ≡ n → KeepsCells (n - h) (classCount n table h) (cellsFrom n table h sizes)
+  unfolding KeepsCells cellsFrom every sumOf cellOf
   keeps-cells h [] some ends = omega arith
   keeps-cells h (g ∷ sizes) some ends =
       let parts = both (leb 1 g) (every (leb 1) sizes) some in (
@@ -57,11 +57,11 @@ module _ (n : ℕ) (table : List ℤ) (accepted : Accepted n table) where
   pub card-well-formed : (sizes : List ℕ) → isGrouping n sizes ≡ true → WellFormed (cardFor n table sizes)
   unfolding isGrouping cardFor
   card-well-formed sizes grouping =
-      let parts = both (every (leb 1) sizes) (eqb (sum sizes) n) grouping in
+      let parts = both (every (leb 1) sizes) (eqb (sumOf sizes) n) grouping in
       record {
         variables = accepted .variables;
         offset = offset-in-range n table accepted sizes;
         cells =
             subst₂ (λ left classes. KeepsCells left classes (cellsFrom n table 0 sizes)) (let e : n - 0 ≡ n = omega arith in e) (one-class-at-top n table)
-            (keeps-cells 0 sizes (parts .0) (zero-add (sum sizes) ∙ eqb-true (sum sizes) n (parts .1)));
+            (keeps-cells 0 sizes (parts .0) (zero-add (sumOf sizes) ∙ eqb-true (sumOf sizes) n (parts .1)));
       }

@@ -8,7 +8,7 @@ use native.Mathlib.Omega.{arith}
 use lib.ListN.{length, getD, length-map}
 use lib.Pow.{pow-pos, pow-add}
 use lib.IntN.{ℤ, pos, _-ℤ_}
-use Rattle.numbers.specs.Lists.{range, every}
+use Rattle.numbers.specs.Lists.{numbersFrom, every}
 use Rattle.numbers.specs.Ranges.{isValue, isWeight}
 use Rattle.numbers.specs.Laws.Bounds.{difference-weight}
 use Rattle.numbers.specs.Laws.Integers.{sub-self, sub-zero}
@@ -27,14 +27,14 @@ use Rattle.compiler.specs.Cascade.{wordOf, wordsOf}
 
 module _ (n : ℕ) (table : List ℤ) (h g : ℕ) where
   -- A class has a word for each group value.
-  class-words : (values : List ℤ) → length (map (wordOf n table h g values) (range 0 (2 ^ g))) ≡ 2 ^ g
-  class-words values = length-map (range 0 (2 ^ g)) (wordOf n table h g values) ∙ length-range 0 (2 ^ g)
+  class-words : (values : List ℤ) → length (map (wordOf n table h g values) (numbersFrom 0 (2 ^ g))) ≡ 2 ^ g
+  class-words values = length-map (numbersFrom 0 (2 ^ g)) (wordOf n table h g values) ∙ length-range 0 (2 ^ g)
 
   -- As many words as classes times group values.
   pub words-count : length (wordsOf n table h g) ≡ classCount n table h * 2 ^ g
   unfolding wordsOf classCount
   words-count =
-      length-flatMap (λ values. map (wordOf n table h g values) (range 0 (2 ^ g))) (2 ^ g) class-words (classes n table h)
+      length-flatMap (λ values. map (wordOf n table h g values) (numbersFrom 0 (2 ^ g))) (2 ^ g) class-words (classes n table h)
       ∙ mul-comm (2 ^ g) (length (classes n table h))
 
   -- The word for a class and a group value is worked out from the differences that the class stands for.
@@ -42,8 +42,8 @@ module _ (n : ℕ) (table : List ℤ) (h g : ℕ) where
   unfolding wordsOf classCount
   word-of-class c v d lc lv =
       ap (λ p. getD (wordsOf n table h g) (p + v) d) (mul-comm c (2 ^ g))
-      ∙ getD-flatMap (λ values. map (wordOf n table h g values) (range 0 (2 ^ g))) (2 ^ g) class-words (classes n table h) [] d c v lc lv
-      ∙ getD-map (wordOf n table h g (getD (classes n table h) c [])) (range 0 (2 ^ g)) v 0 d (rw length-range lv)
+      ∙ getD-flatMap (λ values. map (wordOf n table h g values) (numbersFrom 0 (2 ^ g))) (2 ^ g) class-words (classes n table h) [] d c v lc lv
+      ∙ getD-map (wordOf n table h g (getD (classes n table h) c [])) (numbersFrom 0 (2 ^ g)) v 0 d (rw length-range lv)
       ∙ ap (wordOf n table h g (getD (classes n table h) c [])) (getD-range 0 (2 ^ g) v 0 lv ∙ zero-add v)
 
 -- A word sees differences only.

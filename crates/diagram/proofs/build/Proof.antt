@@ -1,7 +1,7 @@
 -- `diagram::build` meets its contract. Assumes nothing.
 use mathlib.Core.Path.{sym, _∙_, ap}
 use borrow.Author.Needs.{needs}
-use Rattle.diagram.specs.Build.{checked}
+use Rattle.diagram.specs.Inner.Checks.{checked}
 use Rattle.diagram.specs.Laws.Builds.{passed-table, build-unfit}
 use Rattle.diagram.proofs.build.Statement.{statement}
 use Rattle.diagram.proofs.build.Tie as tie

@@ -10,7 +10,7 @@ use lib.Seq.{take-all}
 use lib.Dec.{lit<}
 use lib.Pow.{pow-pos}
 use lib.IntN.{ℤ}
-use Rattle.numbers.specs.Lists.{range}
+use Rattle.numbers.specs.Lists.{numbersFrom}
 use Rattle.numbers.specs.Laws.Lists.{length-range, getD-range, getD-map}
 use Rattle.numbers.specs.Laws.Powers.{power-split, part-room}
 use Rattle.blocks.specs.Blocks.{block, blocks, lowerHalf, upperHalf, differences}
@@ -28,7 +28,7 @@ twice-blocks n i h = ap (λ k. 2 ^ k) (let e : n - i ≡ suc (n - suc i) = omega
 pub blocks-at : (n : ℕ) (table : List ℤ) (i j : ℕ) → j < 2 ^ (n - i) → getD (blocks n table i) j [] ≡ block table i j
 unfolding blocks
 blocks-at n table i j l =
-    getD-map (block table i) (range 0 (2 ^ (n - i))) j 0 [] (rw length-range l)
+    getD-map (block table i) (numbersFrom 0 (2 ^ (n - i))) j 0 [] (rw length-range l)
     ∙ ap (block table i) (getD-range 0 (2 ^ (n - i)) j 0 l ∙ zero-add j)
 
 -- The lower half of block j is block 2j of one height less.

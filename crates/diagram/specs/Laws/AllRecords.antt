@@ -8,17 +8,17 @@ use native.Mathlib.Omega.{arith}
 use lib.ListN.{length, getD}
 use lib.Pow.{pow-mono}
 use lib.IntN.{ℤ}
-use Rattle.numbers.specs.Lists.{range, overwritten}
+use Rattle.numbers.specs.Lists.{numbersFrom}
+use Rattle.numbers.specs.Inner.Rows.{overwritten}
 use Rattle.numbers.specs.Laws.Lists.{range-suc}
 use Rattle.numbers.specs.Laws.Overwriting.{length-overwritten}
 use Rattle.numbers.specs.Laws.Rows.{overwritten-none, overwritten-more}
 use Rattle.numbers.specs.Laws.Selections.{flatMap-append}
-use Rattle.blocks.specs.Layout.{cutPlace}
+use Rattle.blocks.specs.Inner.Layout.{cutPlace, classAt}
 use Rattle.blocks.specs.Laws.Classes.{class-count-le}
 use Rattle.diagram.specs.Build.{nodeRoom}
 use Rattle.diagram.specs.Records.{recordsBelow, node, recordsAt, records, recordNumbers, recordSize}
-use Rattle.blocks.specs.Classes.{classAt}
-use Rattle.diagram.specs.Building.{NodesKnown, CutReady, CutRecorded, BuildReady, AllRecorded}
+use Rattle.diagram.specs.Inner.Building.{NodesKnown, CutReady, CutRecorded, BuildReady, AllRecorded}
 use Rattle.diagram.specs.Laws.Checks.{variables-range}
 use Rattle.diagram.specs.Laws.CutRecords.{cut-known, numbers-length}
 use Rattle.diagram.specs.Laws.Numbering.{records-before, records-count, records-room, below-more}
@@ -26,20 +26,20 @@ use Rattle.blocks.specs.Laws.Places.{place-inside, length-counts, count-at}
 
 -- The numbers of the records of the variables below i.
 abbrev pub numbersBelow : ℕ → List ℤ → ℕ → List ℤ
-numbersBelow n table i = flatMap recordNumbers (flatMap (recordsAt n table) (range 0 i))
+numbersBelow n table i = flatMap recordNumbers (flatMap (recordsAt n table) (numbersFrom 0 i))
 
 numbers-below-length : (n : ℕ) (table : List ℤ) (i : ℕ) → length (numbersBelow n table i) ≡ recordSize * recordsBelow n table i
-numbers-below-length n table i = numbers-length (flatMap (recordsAt n table) (range 0 i)) ∙ ap (λ m. recordSize * m) (records-before n table i)
+numbers-below-length n table i = numbers-length (flatMap (recordsAt n table) (numbersFrom 0 i)) ∙ ap (λ m. recordSize * m) (records-before n table i)
 
 -- One variable more.
 numbers-below-suc : (n : ℕ) (table : List ℤ) (i : ℕ) → numbersBelow n table (suc i) ≡ numbersBelow n table i ++ flatMap recordNumbers (recordsAt n table i)
 unfolding flatMap
 numbers-below-suc n table i =
     ap (flatMap recordNumbers)
-    (ap (flatMap (recordsAt n table)) (range-suc 0 i ∙ ap (λ k. range 0 i ++ k ∷ []) (zero-add i))
-    ∙ flatMap-append (recordsAt n table) (range 0 i) (i ∷ [])
-    ∙ ap (λ l. flatMap (recordsAt n table) (range 0 i) ++ l) (append-nil (recordsAt n table i)))
-    ∙ flatMap-append recordNumbers (flatMap (recordsAt n table) (range 0 i)) (recordsAt n table i)
+    (ap (flatMap (recordsAt n table)) (range-suc 0 i ∙ ap (λ k. numbersFrom 0 i ++ k ∷ []) (zero-add i))
+    ∙ flatMap-append (recordsAt n table) (numbersFrom 0 i) (i ∷ [])
+    ∙ ap (λ l. flatMap (recordsAt n table) (numbersFrom 0 i) ++ l) (append-nil (recordsAt n table i)))
+    ∙ flatMap-append recordNumbers (flatMap (recordsAt n table) (numbersFrom 0 i)) (recordsAt n table i)
 
 -- What the heights up to i leave.
 pub record RecordsSoFar (n : ℕ) (table nodes₀ nodes : List ℤ) (row : List ℕ) (made i : ℕ) : Type 0 where
@@ -72,7 +72,7 @@ module _ {n : ℕ} {table : List ℤ} {classRow firstRow countRow : List ℕ} {n
   }
 
   pub records-start : (row : List ℕ) → length row ≡ 8191 → ((k : ℕ) → k < 8191 → getD row k 0 ≡ 0) → RecordsSoFar n table nodes₀ nodes₀ row 0 0
-  unfolding recordsBelow range flatMap
+  unfolding recordsBelow numbersFrom flatMap
   records-start row long zeros = record { height = omega arith; counted = refl; below = rw (sub-zero n) (single-values row long zeros); recorded = sym (overwritten-none nodes₀ 0) }
 
   -- The numbers lie within the buffer.

@@ -10,8 +10,7 @@ use lib.IntN.{ℤ}
 use Rattle.numbers.specs.Lists.{keep}
 use Rattle.numbers.specs.Laws.Bools.{yes-or-no}
 use Rattle.numbers.specs.Laws.Rows.{keep-one, keep-other, kept-at, kept-below}
-use Rattle.numbers.specs.Laws.Selections.{keep-append}
-use Rattle.numbers.specs.Laws.Selections.{keep-passed, keep-failed, kept-from, passed-kept, keep-unseen}
+use Rattle.numbers.specs.Laws.Selections.{keep-append, keep-passed, keep-failed, kept-from, passed-kept, keep-unseen}
 use Rattle.blocks.specs.Blocks.{blocks, differences}
 use Rattle.blocks.specs.Classes.{numberIn, learn, learnAll, distinct, classes}
 use Rattle.blocks.specs.Laws.Known.{number-at, number-by, learn-known, learn-new, known-or-new, own-distinct}

@@ -16,8 +16,9 @@ use Rattle.numbers.specs.Laws.Rows.{overwritten-front}
 use Rattle.blocks.specs.Blocks.{first}
 use Rattle.diagram.specs.Accepted.{Accepted}
 use Rattle.diagram.specs.Records.{records, recordNumbers, offset, nodeCount}
-use Rattle.diagram.specs.Build.{ofTable, tableChecks, nodeRoom, build, buildAnswer, buildBuffer, built, Builds}
-use Rattle.diagram.specs.Building.{AllRecorded}
+use Rattle.diagram.specs.Build.{ofTable, nodeRoom, build, buildAnswer, buildBuffer, built, Builds}
+use Rattle.diagram.specs.Inner.Checks.{tableChecks}
+use Rattle.diagram.specs.Inner.Building.{AllRecorded}
 use Rattle.diagram.specs.declared.Built.the-variants.{Diagram, Refused}
 
 -- ---- the checks on a table

@@ -14,14 +14,14 @@ use mir.Syntax.{w32, w64}
 use mir.Val.{Fits, SFits, ofZ}
 use mir.Facts.{fits-natAbs, sfits-lit}
 use borrow.Author.Tests.{le-leb, lt-leb, ltb-true, ltb-false, leb-true, eq-eqb, ne-eqb}
-use Rattle.numbers.specs.Lists.{range, every}
+use Rattle.numbers.specs.Lists.{numbersFrom, every}
 use Rattle.numbers.specs.Ranges.{mostVariables, isVariables, within, eqZ, isWeight}
 use Rattle.numbers.specs.Laws.Bools.{yes-or-no, both}
 use Rattle.numbers.specs.Laws.Integers.{eqZ-true, eqZ-refl}
 use Rattle.numbers.specs.Laws.Machine.{same-bits}
 use Rattle.diagram.specs.Records.{recordSize}
 use Rattle.diagram.specs.Walk.{variableAt, lowAt, highAt, weightAt, childFits, recordFits, recordCount}
-use Rattle.diagram.specs.Edges.{Recorded}
+use Rattle.diagram.specs.Inner.Edges.{Recorded}
 
 -- ---- ranges
 
@@ -135,18 +135,18 @@ module _ (n : ℕ) (list : List ℤ) (k : ℕ) where
 -- ---- all records, from one on
 
 -- A run of numbers, of which the first passes: the others decide.
-pub passes-here : (test : ℕ → Bool) (start count : ℕ) → test start ≡ true → 0 < count → every test (range start count) ≡ every test (range (start + 1) (count - 1))
-unfolding range every
+pub passes-here : (test : ℕ → Bool) (start count : ℕ) → test start ≡ true → 0 < count → every test (numbersFrom start count) ≡ every test (numbersFrom (start + 1) (count - 1))
+unfolding numbersFrom every
 passes-here test start zero e h = absurd (omega arith)
 passes-here test start (suc count) e h = rw (e, let p : start + 1 ≡ suc start = omega arith in p, let q : suc count - 1 ≡ count = omega arith in q)
 
-pub fails-here : (test : ℕ → Bool) (start count : ℕ) → test start ≡ false → 0 < count → every test (range start count) ≡ false
-unfolding range every
+pub fails-here : (test : ℕ → Bool) (start count : ℕ) → test start ≡ false → 0 < count → every test (numbersFrom start count) ≡ false
+unfolding numbersFrom every
 fails-here test start zero e h = absurd (omega arith)
 fails-here test start (suc count) e h = rw e
 
-pub none-left : (test : ℕ → Bool) (start : ℕ) → every test (range start 0) ≡ true
-unfolding range every
+pub none-left : (test : ℕ → Bool) (start : ℕ) → every test (numbersFrom start 0) ≡ true
+unfolding numbersFrom every
 none-left test start = refl
 
 -- The values of a table from one on: the first passes and the others decide, or it fails.

@@ -10,23 +10,22 @@ use lib.ListN.{length, getD, take, drop, set, length-map, length-append, take-ap
 use lib.Seq.{take-suc, take-all, length-take-le}
 use lib.Pow.{pow-mono}
 use lib.IntN.{ℤ}
-use Rattle.numbers.specs.Lists.{keep, overwritten}
+use Rattle.numbers.specs.Lists.{keep}
+use Rattle.numbers.specs.Inner.Rows.{overwritten}
 use Rattle.numbers.specs.Laws.Bools.{yes-or-no}
 use Rattle.numbers.specs.Laws.Lists.{getD-map}
 use Rattle.numbers.specs.Laws.Overwriting.{length-overwritten}
 use Rattle.numbers.specs.Laws.Rows.{keep-next, keep-same, overwritten-none, overwritten-more, store-behind, new-entry, later-entry}
-use Rattle.numbers.specs.Laws.Selections.{keep-append}
-use Rattle.numbers.specs.Laws.Selections.{flatMap-append, length-flatMap}
+use Rattle.numbers.specs.Laws.Selections.{keep-append, flatMap-append, length-flatMap}
 use Rattle.blocks.specs.Blocks.{block, lowerHalf, differences}
 use Rattle.blocks.specs.Classes.{numberIn, classes, classCount}
-use Rattle.blocks.specs.Layout.{cutPlace}
+use Rattle.blocks.specs.Inner.Layout.{cutPlace, classAt}
 use Rattle.blocks.specs.Laws.Classes.{class-count-le}
 use Rattle.blocks.specs.Laws.Cuts.{cut-end, cut-within}
 use Rattle.blocks.specs.Laws.Differences.{differences-again}
 use Rattle.diagram.specs.Build.{nodeRoom}
 use Rattle.diagram.specs.Records.{branches, kinds, recordsBelow, node, Record, recordOf, recordsAt, recordNumbers, recordSize}
-use Rattle.blocks.specs.Classes.{classAt}
-use Rattle.diagram.specs.Building.{NodesKnown, Forking, RecordRoom, ClassPlaced, CutReady, CutRecorded}
+use Rattle.diagram.specs.Inner.Building.{NodesKnown, Forking, RecordRoom, ClassPlaced, CutReady, CutRecorded}
 use Rattle.diagram.specs.Laws.BranchingClasses.{kinds-are, kind-below, kind-number}
 use Rattle.diagram.specs.Laws.Checks.{variables-range}
 use Rattle.diagram.specs.Laws.Nodes.{node-branching, node-passing}

@@ -8,7 +8,7 @@ use lib.ListN.{length}
 use lib.Dec.{leb, eqb}
 use lib.IntN.{ℤ, pos, natAbs, _+ℤ_, +ℤ-idl, +ℤ-idr, +ℤ-assoc}
 use lib.Signed.{mag}
-use Rattle.numbers.specs.Lists.{range, every}
+use Rattle.numbers.specs.Lists.{numbersFrom, every}
 use Rattle.numbers.specs.Ranges.{within, isValue, isWeight, eqZ}
 use Rattle.numbers.specs.Laws.Bools.{yes-or-no, both}
 use Rattle.numbers.specs.Laws.Bounds.{value-mag}
@@ -18,7 +18,7 @@ use Rattle.numbers.specs.Laws.Lists.{length-range, getD-range, every-at}
 use Rattle.diagram.specs.Records.{recordSize}
 use Rattle.diagram.specs.Build.{nodeRoom}
 use Rattle.diagram.specs.Walk.{variableAt, lowAt, highAt, weightAt, childFits, recordFits, recordCount, listFits, bitSet, pathWeight, walkValue}
-use Rattle.diagram.specs.Edges.{Walkable, edgeAt}
+use Rattle.diagram.specs.Inner.Edges.{Walkable, edgeAt}
 use Rattle.diagram.specs.declared.Edge.{Edge}
 use Rattle.diagram.specs.Laws.Checks.{unequal, child-node, weight-mag}
 use Rattle.diagram.specs.Laws.Paths.{path-terminal}
@@ -94,7 +94,7 @@ record-passes : (n : ℕ) (list : List ℤ) → listFits n list ≡ true → (k 
 unfolding listFits
 record-passes n list h k one l =
     ap (recordFits n list) (sym (getD-range 1 (recordCount list) (k - 1) 0 (omega arith) ∙ (let e : 1 + (k - 1) ≡ k = omega arith in e)))
-    ∙ every-at (recordFits n list) (range 1 (recordCount list)) 0 (both (eqb (length list % recordSize) 0 && leb (length list) (nodeRoom n)) (every (recordFits n list) (range 1 (recordCount list))) h .1) (k - 1) (rw length-range (omega arith))
+    ∙ every-at (recordFits n list) (numbersFrom 1 (recordCount list)) 0 (both (eqb (length list % recordSize) 0 && leb (length list) (nodeRoom n)) (every (recordFits n list) (numbersFrom 1 (recordCount list))) h .1) (k - 1) (rw length-range (omega arith))
 
 -- What a record's check says of its edges.
 record EdgesFit (list : List ℤ) (k : ℕ) : Type 0 where

@@ -10,7 +10,7 @@ use lib.Pow.{pow-pos}
 use lib.IntN.{ℤ, pos, _-ℤ_}
 use lib.Signed.{ltZ}
 use borrow.Author.Tests.{lt-ltb, le-leb, eq-eqb}
-use Rattle.numbers.specs.Lists.{range, every}
+use Rattle.numbers.specs.Lists.{numbersFrom, every}
 use Rattle.numbers.specs.Ranges.{isValue, isWeight, within, eqZ}
 use Rattle.numbers.specs.Laws.Bools.{and-both}
 use Rattle.numbers.specs.Laws.Bounds.{within-pos, difference-weight}
@@ -104,13 +104,13 @@ module _ (n : ℕ) (table : List ℤ) (size : length table ≡ 2 ^ n) (values : 
   pub list-fits : listFits n (written n table) ≡ true
   unfolding listFits
   list-fits =
-      and-both (eqb (length (written n table) % recordSize) 0 && leb (length (written n table)) (nodeRoom n)) (every (recordFits n (written n table)) (range 1 (recordCount (written n table))))
+      and-both (eqb (length (written n table) % recordSize) 0 && leb (length (written n table)) (nodeRoom n)) (every (recordFits n (written n table)) (numbersFrom 1 (recordCount (written n table))))
       (and-both (eqb (length (written n table) % recordSize) 0) (leb (length (written n table)) (nodeRoom n))
       (eq-eqb (length (written n table) % recordSize) 0 (written-whole n table))
       (le-leb (length (written n table)) (nodeRoom n) (written-room n table)))
-      (every-from (recordFits n (written n table)) (range 1 (recordCount (written n table))) 0 each)
+      (every-from (recordFits n (written n table)) (numbersFrom 1 (recordCount (written n table))) 0 each)
     where
-      each : (j : ℕ) → j < length (range 1 (recordCount (written n table))) → recordFits n (written n table) (getD (range 1 (recordCount (written n table))) j 0) ≡ true
+      each : (j : ℕ) → j < length (numbersFrom 1 (recordCount (written n table))) → recordFits n (written n table) (getD (numbersFrom 1 (recordCount (written n table))) j 0) ≡ true
       each j p =
           let q : j < recordCount (written n table) = rw length-range at p in
           ap (recordFits n (written n table)) (getD-range 1 (recordCount (written n table)) j 0 q)

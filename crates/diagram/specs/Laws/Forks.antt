@@ -19,13 +19,12 @@ use Rattle.numbers.specs.Laws.Lists.{every-at}
 use Rattle.numbers.specs.Laws.Powers.{part-room, power-split}
 use Rattle.blocks.specs.Blocks.{block, first, lowerHalf, upperHalf, differences}
 use Rattle.blocks.specs.Classes.{classes, classCount, classOf}
-use Rattle.blocks.specs.Layout.{cutPlace}
+use Rattle.blocks.specs.Inner.Layout.{cutPlace, classAt}
 use Rattle.blocks.specs.Laws.Blocks.{block-at, block-within}
 use Rattle.blocks.specs.Laws.Classes.{class-below, class-stands, class-count-le}
 use Rattle.blocks.specs.Laws.Differences.{differences-again}
 use Rattle.diagram.specs.Records.{branches, node, recordOf}
-use Rattle.blocks.specs.Classes.{classAt}
-use Rattle.diagram.specs.Building.{forkOf, Forking}
+use Rattle.diagram.specs.Inner.Building.{forkOf, Forking}
 use Rattle.diagram.specs.declared.Fork.{Fork}
 use Rattle.diagram.specs.Laws.Alike.{BlockLike, lower-of-block, upper-of-block, whole-length, like-lower, like-upper}
 use Rattle.diagram.specs.Laws.Checks.{variables-range, weight-mag}

@@ -9,7 +9,7 @@ use lib.ListN.{length, getD, take, drop, length-map, length-append, length-take,
 use lib.Seq.{getD-append-add}
 use lib.Pow.{pow-pos}
 use lib.IntN.{ℤ, pos, _-ℤ_}
-use Rattle.numbers.specs.Lists.{range}
+use Rattle.numbers.specs.Lists.{numbersFrom}
 use Rattle.numbers.specs.Laws.Integers.{sub-sub-same}
 use Rattle.numbers.specs.Laws.Lists.{range-suc, getD-map, map-take, map-drop}
 use Rattle.numbers.specs.Laws.Selections.{flatMap-append, length-flatMap, getD-flatMap, range-add}
@@ -42,12 +42,12 @@ module _ (n : ℕ) (table : List ℤ) where
   -- ---- how many there are
 
   -- Those of the variables below i.
-  pub records-before : (i : ℕ) → length (flatMap (recordsAt n table) (range 0 i)) ≡ recordsBelow n table i
-  unfolding range flatMap recordsBelow recordsAt
+  pub records-before : (i : ℕ) → length (flatMap (recordsAt n table) (numbersFrom 0 i)) ≡ recordsBelow n table i
+  unfolding numbersFrom flatMap recordsBelow recordsAt
   records-before zero = refl
   records-before (suc i) =
-      ap length (ap (flatMap (recordsAt n table)) (range-suc 0 i ∙ ap (λ k. range 0 i ++ k ∷ []) (zero-add i)) ∙ flatMap-append (recordsAt n table) (range 0 i) (i ∷ []))
-      ∙ length-append (flatMap (recordsAt n table) (range 0 i)) (recordsAt n table i ++ [])
+      ap length (ap (flatMap (recordsAt n table)) (range-suc 0 i ∙ ap (λ k. numbersFrom 0 i ++ k ∷ []) (zero-add i)) ∙ flatMap-append (recordsAt n table) (numbersFrom 0 i) (i ∷ []))
+      ∙ length-append (flatMap (recordsAt n table) (numbersFrom 0 i)) (recordsAt n table i ++ [])
       ∙ ap₂ (λ a b. a + b) (records-before i) (ap length (append-nil (recordsAt n table i)) ∙ length-map (kinds n table i) (recordOf n table i))
 
   -- All of them.
@@ -108,21 +108,21 @@ module _ (n : ℕ) (table : List ℤ) where
 
   -- The record of kind k of variable i stands behind all records of lower variables.
   pub record-at : (i k : ℕ) (filler : Record) → i < n → k < length (kinds n table i) → getD (records n table) (recordsBelow n table i + k) filler ≡ recordOf n table i (getD (kinds n table i) k [])
-  unfolding records recordsAt range flatMap
+  unfolding records recordsAt numbersFrom flatMap
   record-at i k filler h l =
       ap₂ (λ rs b. getD rs (b + k) filler) split (sym (records-before i))
-      ∙ getD-append-add (flatMap (recordsAt n table) (range 0 i)) (recordsAt n table i ++ rest) k filler
+      ∙ getD-append-add (flatMap (recordsAt n table) (numbersFrom 0 i)) (recordsAt n table i ++ rest) k filler
       ∙ List·getD-append (recordsAt n table i) rest filler k (rw (length-map (kinds n table i) (recordOf n table i)) l)
       ∙ getD-map (recordOf n table i) (kinds n table i) k [] filler l
     where
       rest : List Record
-      rest = flatMap (recordsAt n table) (range (suc i) (n - suc i))
+      rest = flatMap (recordsAt n table) (numbersFrom (suc i) (n - suc i))
 
-      split : flatMap (recordsAt n table) (range 0 n) ≡ flatMap (recordsAt n table) (range 0 i) ++ (recordsAt n table i ++ rest)
+      split : flatMap (recordsAt n table) (numbersFrom 0 n) ≡ flatMap (recordsAt n table) (numbersFrom 0 i) ++ (recordsAt n table i ++ rest)
       split =
-          ap (λ m. flatMap (recordsAt n table) (range 0 m)) (let e : n ≡ i + suc (n - suc i) = omega arith in e)
-          ∙ ap (flatMap (recordsAt n table)) (range-add 0 i (suc (n - suc i)) ∙ ap (λ s. range 0 i ++ range s (suc (n - suc i))) (zero-add i))
-          ∙ flatMap-append (recordsAt n table) (range 0 i) (range i (suc (n - suc i)))
+          ap (λ m. flatMap (recordsAt n table) (numbersFrom 0 m)) (let e : n ≡ i + suc (n - suc i) = omega arith in e)
+          ∙ ap (flatMap (recordsAt n table)) (range-add 0 i (suc (n - suc i)) ∙ ap (λ s. numbersFrom 0 i ++ numbersFrom s (suc (n - suc i))) (zero-add i))
+          ∙ flatMap-append (recordsAt n table) (numbersFrom 0 i) (numbersFrom i (suc (n - suc i)))
 
   -- The numbers that Build writes, and the records that Walk counts in them.
   pub written-length : length (written n table) ≡ recordSize * length (records n table)

@@ -6,7 +6,7 @@ use native.Mathlib.Omega.{arith}
 use lib.ListN.{length, getD, take, drop, length-map}
 use lib.Seq.{ext-getD}
 use lib.IntN.{ℤ, pos, negℤ, _+ℤ_, _-ℤ_, +ℤ-assoc, +ℤ-comm}
-use Rattle.numbers.specs.Lists.{range, keep}
+use Rattle.numbers.specs.Lists.{numbersFrom, keep}
 use Rattle.numbers.specs.Laws.Bools.{yes-or-no}
 use Rattle.numbers.specs.Laws.Integers.{sub-add}
 use Rattle.numbers.specs.Laws.Lists.{getD-map, map-take, map-drop, map-map, map-same}
@@ -26,8 +26,8 @@ use Rattle.diagram.specs.Laws.Walks.{root-path}
 blocks-shift : (n : ℕ) (c : ℤ) (table : List ℤ) (i : ℕ) → blocks n (shift c table) i ≡ map (shift c) (blocks n table i)
 unfolding blocks block
 blocks-shift n c table i =
-    map-same (block (shift c table) i) (λ j. shift c (block table i j)) (range 0 (2 ^ (n - i))) (λ j. sym (map-take more (2 ^ i) (drop (j * 2 ^ i) table) ∙ ap (take (2 ^ i)) (map-drop more (j * 2 ^ i) table)))
-    ∙ sym (map-map (block table i) (shift c) (range 0 (2 ^ (n - i))))
+    map-same (block (shift c table) i) (λ j. shift c (block table i j)) (numbersFrom 0 (2 ^ (n - i))) (λ j. sym (map-take more (2 ^ i) (drop (j * 2 ^ i) table) ∙ ap (take (2 ^ i)) (map-drop more (j * 2 ^ i) table)))
+    ∙ sym (map-map (block table i) (shift c) (numbersFrom 0 (2 ^ (n - i))))
   where
     more : ℤ → ℤ
     more v = v +ℤ c
@@ -71,7 +71,7 @@ record-shift n c table i values =
 pub records-shift : (n : ℕ) (c : ℤ) (table : List ℤ) → records n (shift c table) ≡ records n table
 unfolding records recordsAt
 records-shift n c table =
-    flatMap-same (recordsAt n (shift c table)) (recordsAt n table) (range 0 n) (λ i.
+    flatMap-same (recordsAt n (shift c table)) (recordsAt n table) (numbersFrom 0 n) (λ i.
     ap (map (recordOf n (shift c table) i)) (kinds-shift n c table i)
     ∙ map-same (recordOf n (shift c table) i) (recordOf n table i) (kinds n table i) (record-shift n c table i))
 

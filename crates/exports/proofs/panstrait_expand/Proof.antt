@@ -1,8 +1,7 @@
 -- `exports::panstrait_expand` meets its contract: the answer that Expand's enum stands for comes back. Assumes nothing.
 use mathlib.Core.Path.{_≡_, subst}
 use borrow.Author.Needs.{needs}
-use Rattle.image.specs.Run.{expanded}
-use Rattle.image.specs.Evaluation.{Expands}
+use Rattle.image.specs.Run.{expanded, Expands}
 use Rattle.image.specs.declared.Expanded.{Expanded}
 use Rattle.exports.specs.Results.{resultOf, ExpandGiven}
 use Rattle.exports.specs.Laws.Given.{expand-given}

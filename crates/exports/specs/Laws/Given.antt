@@ -8,8 +8,7 @@ use Rattle.numbers.specs.Answers.{Answer, accepted, refused, mapAnswer}
 use Rattle.diagram.specs.Build.{built, Builds}
 use Rattle.diagram.specs.Walk.{walk}
 use Rattle.diagram.specs.declared.Built.{Built}
-use Rattle.image.specs.Run.{Result, run, expand, expanded}
-use Rattle.image.specs.Evaluation.{Expands}
+use Rattle.image.specs.Run.{Result, run, expand, expanded, Expands}
 use Rattle.image.specs.declared.Expanded.{Expanded}
 use Rattle.exports.specs.Results.{resultOf, leftBehind, BuildGiven, WalkGiven, RunGiven, ExpandGiven}
 

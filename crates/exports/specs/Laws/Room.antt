@@ -9,7 +9,7 @@ use lib.IntN.{ℤ}
 use borrow.Author.Tests.{leb-true, eqb-true}
 use Rattle.numbers.specs.Ranges.{mostVariables}
 use Rattle.numbers.specs.Laws.Bools.{both}
-use Rattle.blocks.specs.Layout.{cutPlace, CutsRoom}
+use Rattle.blocks.specs.Inner.Layout.{cutPlace, CutsRoom}
 use Rattle.exports.specs.Classing.{sizesFit}
 
 -- Sizes that fit are room for the classes of all cuts.

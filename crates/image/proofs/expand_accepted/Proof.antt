@@ -4,7 +4,7 @@ use mathlib.Core.Path.{_≡_}
 use native.Mathlib.Omega.{arith}
 use lib.ListN.{length}
 use borrow.Author.Needs.{needs}
-use Rattle.image.specs.Evaluation.{cardRead}
+use Rattle.image.specs.Inner.Evaluation.{cardRead}
 use Rattle.image.specs.Laws.Evaluating.{variables-narrow, variables-size}
 use Rattle.image.specs.Laws.Running.{expand-room, expands-refused, expands-table}
 use Rattle.image.proofs.expand_accepted.Statement.{statement}

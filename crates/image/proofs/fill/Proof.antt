@@ -7,7 +7,7 @@ use mir.Syntax.{w32}
 use mir.Val.{toZ, ofZ}
 use mir.Facts.{toZ-ofZ, fits-of-lt}
 use borrow.Author.Needs.{scaled-fits}
-use Rattle.image.specs.Evaluation.{resultOf, cardRead}
+use Rattle.image.specs.Inner.Evaluation.{resultOf, cardRead}
 use Rattle.image.specs.Run.{runCard}
 use Rattle.image.specs.Laws.Running.{Filled, filled-none, filled-more, filled-all}
 use Rattle.image.proofs.fill.Statement.{statement}

@@ -5,7 +5,7 @@ use mir.Syntax.{w32}
 use mir.Facts.{toZ-ofZ}
 use borrow.Author.Needs.{needs}
 use Rattle.numbers.specs.Answers.{accepted}
-use Rattle.image.specs.Evaluation.{cardRead, resultOf}
+use Rattle.image.specs.Inner.Evaluation.{cardRead, resultOf}
 use Rattle.image.specs.Run.{ran}
 use Rattle.image.specs.Laws.Evaluating.{variables-narrow, variables-size}
 use Rattle.image.specs.Laws.Running.{run-late, run-value}

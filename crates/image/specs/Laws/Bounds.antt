@@ -11,8 +11,8 @@ use Rattle.numbers.specs.Ranges.{isVariables, isValue, mostVariables, widestAdd
 use Rattle.numbers.specs.Widths.{railWidth, cellBits}
 use Rattle.numbers.specs.Laws.Bools.{both}
 use Rattle.numbers.specs.Laws.Widths.{rail-width-tells, rail-width-least}
-use Rattle.image.specs.Bounds.{mostBits, WithinBounds, CellFits}
-use Rattle.image.specs.Kinds.{widthOf}
+use Rattle.image.specs.Inner.Bounds.{mostBits, WithinBounds, CellFits}
+use Rattle.image.specs.Inner.Kinds.{widthOf}
 use Rattle.image.specs.Reader.{keepsRules, mostClasses, placeAfter, start}
 use Rattle.image.specs.Laws.Rules.{shape-facts}
 use Rattle.image.specs.declared.Command.{Command}

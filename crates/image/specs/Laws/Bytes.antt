@@ -13,8 +13,7 @@ use lib.IntN.{ℤ}
 use mir.Syntax.{w32}
 use mir.Val.{SFits, ofZ, toZ}
 use mir.Facts.{fits-ofZ, toZ-ofZ, ofZ-toZ, fits-of-lt}
-use Rattle.image.specs.Bounds.{AreBytes}
-use Rattle.image.specs.Bytes.{bigEndian, signedBytes, number, unsignedAt, signedAt}
+use Rattle.image.specs.Bytes.{AreBytes, bigEndian, signedBytes, number, unsignedAt, signedAt}
 use Rattle.image.specs.Commands.{commandBytes}
 use Rattle.image.specs.Reader.{Due, table, cell, word, end, dueByte, dueSize, commandAt}
 

@@ -9,11 +9,12 @@ use lib.ListN.{length}
 use lib.IntN.{ℤ, pos}
 use borrow.Author.Tests.{eq-eqb}
 use Rattle.numbers.specs.Lists.{every}
-use Rattle.numbers.specs.Ranges.{isVariables, isValue, eqZ, lowest, highest}
+use Rattle.numbers.specs.Ranges.{isVariables, isValue, eqZ}
+use Rattle.numbers.specs.Inner.Extremes.{lowest, highest}
 use Rattle.numbers.specs.Widths.{weightWidth}
 use Rattle.numbers.specs.Laws.Bools.{both, and-both}
 use Rattle.numbers.specs.Laws.Widths.{weight-width-zero}
-use Rattle.image.specs.Kinds.{kindOf, isEnd}
+use Rattle.image.specs.Inner.Kinds.{kindOf, isEnd}
 use Rattle.image.specs.Cells as cells
 use Rattle.image.specs.Cells.{Card, totalBits}
 use Rattle.image.specs.Commands.{wordCommand, cellCommands, cardCommands, collect, cardOf}

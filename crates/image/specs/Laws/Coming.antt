@@ -8,11 +8,11 @@ use native.Mathlib.Omega.{arith}
 use lib.Dec.{eqb}
 use lib.ListN.{length, getD}
 use borrow.Author.Tests.{eqb-true, eq-eqb, lt-ltb, le-ltb}
-use Rattle.numbers.specs.Lists.{sum}
-use Rattle.numbers.specs.Ranges.{lowest, highest}
+use Rattle.numbers.specs.Lists.{sumOf}
+use Rattle.numbers.specs.Inner.Extremes.{lowest, highest}
 use Rattle.numbers.specs.Widths.{weightWidth}
 use Rattle.numbers.specs.Laws.Extremes.{width-by-extremes}
-use Rattle.image.specs.Kinds.{kindOf, isEnd}
+use Rattle.image.specs.Inner.Kinds.{kindOf, isEnd}
 use Rattle.image.specs.Cells as cells
 use Rattle.image.specs.Cells.{bitsOf, totalBits}
 use Rattle.image.specs.Commands.{wordCommand, cellCommands}
@@ -153,7 +153,7 @@ module _ (p : Place) (cell : cells.Cell) (below : List cells.Cell) where
 
 module _ (p : Place) where
   pub end-may : Coming p [] [] → May p (End (p .bits + totalBits []))
-  unfolding KeepsCells kindOf weights lowest highest keepsRules totalBits sum
+  unfolding KeepsCells kindOf weights lowest highest keepsRules totalBits sumOf
   end-may c =
       record {
         width = width-here p (sym (c .count)) ∙ eq-eqb (p .width) (weightWidth (p .least ∷ p .greatest ∷ [])) (c .width);
@@ -182,7 +182,7 @@ unfolding coming placeAfter wordCommand
 word-first p word words below = refl
 
 cell-first : (p : Place) (cell : cells.Cell) (below : List cells.Cell) → coming p [] (cell ∷ below) ≡ cellCommand cell ∷ coming (placeAfter p (cellCommand cell)) (cell .words) below
-unfolding coming placeAfter cellCommands flatMap totalBits bitsOf sum
+unfolding coming placeAfter cellCommands flatMap totalBits bitsOf sumOf
 cell-first p cell below =
     ap (λ l. cellCommand cell ∷ l)
     (append-assoc (map wordCommand (cell .words)) (flatMap cellCommands below) (End (p .bits + (bitsOf cell + totalBits below)) ∷ [])
@@ -217,7 +217,7 @@ pub record Comes (p : Place) (commands : List Command) : Type 0 where
   pub keeps : Coming p words below
 
 comes-last : (p : Place) (c : Command) → isEnd c ≡ true → May p c → Comes p (c ∷ [])
-unfolding isEnd coming flatMap totalBits sum
+unfolding isEnd coming flatMap totalBits sumOf
 comes-last p (Table n offset) e m = absurd (false≢true e)
 comes-last p (Cell group incoming outgoing width) e m = absurd (false≢true e)
 comes-last p (Word class weight) e m = absurd (false≢true e)

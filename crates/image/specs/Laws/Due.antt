@@ -8,7 +8,7 @@ use lib.Dec.{eqb}
 use lib.ListN.{length}
 use borrow.Author.Tests.{eq-eqb, ne-eqb, eqb-true, eqb-false}
 use Rattle.numbers.specs.Laws.Bools.{yes-or-no}
-use Rattle.image.specs.Kinds.{isEnd}
+use Rattle.image.specs.Inner.Kinds.{isEnd}
 use Rattle.image.specs.Reader.{Due, table, cell, word, end, due, endsWell}
 use Rattle.image.specs.declared.Command.{Command}
 use Rattle.image.specs.declared.Command.the-variants.{Table, Cell, Word, End}

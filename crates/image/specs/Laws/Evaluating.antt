@@ -14,12 +14,12 @@ use Rattle.numbers.specs.Ranges.{mostVariables}
 use Rattle.numbers.specs.Laws.Machine.{mag-add}
 use Rattle.numbers.specs.Laws.Pieces.{shifted-one}
 use Rattle.numbers.specs.Laws.Powers.{part-room}
-use Rattle.image.specs.Kinds.{kindOf}
+use Rattle.image.specs.Inner.Kinds.{kindOf}
 use Rattle.image.specs.Bytes.{unsignedAt, signedAt}
 use Rattle.image.specs.Cells as cells
 use Rattle.image.specs.Cells.{Card, totalBits}
 use Rattle.image.specs.Commands.{wordCommand, cellCommands, cardCommands, cardOf}
-use Rattle.image.specs.Evaluation.{Accepted, cardIn, cardRead, resultOf, firstWalk, groupAhead, wordPlace, nextPlace, cellRead, CellAhead}
+use Rattle.image.specs.Inner.Evaluation.{Accepted, cardIn, cardRead, resultOf, firstWalk, groupAhead, wordPlace, nextPlace, cellRead, CellAhead}
 use Rattle.image.specs.Reader.{dueSize, commandAt}
 use Rattle.image.specs.Run.{Result, wordAt, groupValue, runFrom, runCard}
 use Rattle.image.specs.WellFormed.{noWord, KeepsCell, KeepsCells}
@@ -171,14 +171,14 @@ module _ (image : List ℕ) (x : ℕ) (result : Result) (w : Walk) where
       let weight = is-weight image x w classes bits cell below k known stands in
       let within = k .shape .within in
       let first = k .shape .some in
-      let sum : mag (w .value +ℤ signedAt image (wordPlace image x w + 3)) ≤ 8388608 + (w .words + 1) * 16777216 = rw weight (small-sum (w .value) (word .weight) (w .words) small (weight-small (word .weight) (kept .ranged))) in (
+      let summed : mag (w .value +ℤ signedAt image (wordPlace image x w + 3)) ≤ 8388608 + (w .words + 1) * 16777216 = rw weight (small-sum (w .value) (word .weight) (w .words) small (weight-small (word .weight) (kept .ranged))) in (
         record {
           few = omega arith;
           some = omega arith;
           within = omega arith;
           next = next-room image x w classes bits cell below k known stands;
           word = word-room image x w classes bits cell below k known stands;
-          sum = omega arith;
+          small = omega arith;
           words = omega arith;
         },
         record {
@@ -188,7 +188,7 @@ module _ (image : List ℕ) (x : ℕ) (result : Result) (w : Walk) where
           keeps = rw group (keeps .1);
           known = rw class (kept .known);
           count = omega arith;
-          small = sum;
+          small = summed;
           stands = rest-stands image x w classes bits cell below k known stands;
           leads = rw (group, class, weight, add-one (w .words)) leads;
         },

@@ -9,14 +9,14 @@ use lib.ListN.{length, getD, length-map}
 use lib.IntN.{ℤ, pos, negℤ}
 use lib.Signed.{mag, leZ}
 use borrow.Author.Tests.{lt-ltb}
-use Rattle.numbers.specs.Lists.{sum}
+use Rattle.numbers.specs.Lists.{sumOf}
 use Rattle.numbers.specs.Ranges.{isValue, isWeight, within, mostVariables}
 use Rattle.numbers.specs.Widths.{holds, weightWidth}
 use Rattle.numbers.specs.Laws.Bools.{both}
 use Rattle.numbers.specs.Laws.Extremes.{mag-between}
 use Rattle.numbers.specs.Laws.Lists.{every-from, getD-map}
 use Rattle.numbers.specs.Laws.Widths.{holds-suc, weight-width-least}
-use Rattle.image.specs.Bounds.{CellFits, mostBits}
+use Rattle.image.specs.Inner.Bounds.{CellFits, mostBits}
 use Rattle.image.specs.Cells as cells
 use Rattle.image.specs.Cells.{Card, bitsOf, totalBits}
 use Rattle.image.specs.Commands.{wordCommand, cellCommands, cardCommands}
@@ -95,7 +95,7 @@ cells-hold (cell ∷ below) left classes l h k =
 
 -- The memory bits of all cells together.
 pub bits-small : (below : List cells.Cell) (left classes : ℕ) → classes ≤ mostClasses → KeepsCells left classes below → totalBits below ≤ left * mostBits
-unfolding KeepsCells totalBits bitsOf sum mostBits
+unfolding KeepsCells totalBits bitsOf sumOf mostBits
 bits-small [] left classes h k = omega arith
 bits-small (cell ∷ below) left classes h k =
     let here = cell-bits-most (cell .incoming) (cell .group) (cell .outgoing) (cell .width) (cell-of left classes cell (k .0) h) in

@@ -8,9 +8,8 @@ use lib.Seq.{drop-length}
 use mir.Syntax.{w32}
 use mir.Val.{SFits, ofZ}
 use Rattle.numbers.specs.Answers.{accepted}
-use Rattle.image.specs.Bounds.{AreBytes}
-use Rattle.image.specs.Kinds.{kindOf}
-use Rattle.image.specs.Bytes.{bigEndian, signedBytes}
+use Rattle.image.specs.Bytes.{AreBytes, bigEndian, signedBytes}
+use Rattle.image.specs.Inner.Kinds.{kindOf}
 use Rattle.image.specs.Commands.{commandBytes, cardCommands, imageOf, cardOf}
 use Rattle.image.specs.Reader.{dueByte, dueSize, commandAt, reading, start}
 use Rattle.image.specs.WellFormed.{WellFormed}

@@ -11,12 +11,12 @@ use lib.Seq.{drop-cons, drop-length, set-at}
 use lib.IntN.{ℤ, pos}
 use borrow.Author.Tests.{lt-ltb, le-ltb, eq-eqb, ne-eqb}
 use Rattle.numbers.specs.Answers.{Answer, accepted, refused, unless, bufferAfter}
-use Rattle.numbers.specs.Lists.{range}
+use Rattle.numbers.specs.Lists.{numbersFrom}
 use Rattle.numbers.specs.Laws.Lists.{length-range, range-suc}
 use Rattle.image.specs.Cells.{Card}
-use Rattle.image.specs.Evaluation.{Accepted, cardRead, valuesTo, Expands}
+use Rattle.image.specs.Inner.Evaluation.{Accepted, cardRead, valuesTo}
+use Rattle.image.specs.Run.{Expands, runCard, run, cardValues, expand, expandBuffer, expanded}
 use Rattle.image.specs.Reader.{reading}
-use Rattle.image.specs.Run.{runCard, run, cardValues, expand, expandBuffer, expanded}
 use Rattle.image.specs.Laws.Evaluating.{is-card}
 use Rattle.image.specs.Laws.Reading.{done}
 use Rattle.image.specs.declared.Command.{Command}
@@ -72,7 +72,7 @@ module _ (image : List ℕ) where
     expand-values room h =
         accepted-expand room
         ∙ ap (λ b. unless b 2 (accepted (cardValues (cardRead image)))) (eq-eqb room (2 ^ cardRead image .n) h)
-        ∙ ap (λ n. accepted (map (λ x. runCard (cardRead image) x .value) (range 0 n))) (sym h)
+        ∙ ap (λ n. accepted (map (λ x. runCard (cardRead image) x .value) (numbersFrom 0 n))) (sym h)
 
   pub expand-refused : (room k : ℕ) → reading image ≡ refused k → expand image room ≡ refused k
   unfolding expand
@@ -87,7 +87,7 @@ module _ (image : List ℕ) where
 
 pub length-values : (card : Card) (count : ℕ) → length (valuesTo card count) ≡ count
 unfolding valuesTo
-length-values card count = length-map (range 0 count) (λ x. runCard card x .value) ∙ length-range 0 count
+length-values card count = length-map (numbersFrom 0 count) (λ x. runCard card x .value) ∙ length-range 0 count
 
 -- Else it holds Run's values.
 pub expands-table : (image : List ℕ) → Accepted image → (buffer after : List ℤ) → length buffer ≡ 2 ^ cardRead image .n → after ≡ valuesTo (cardRead image) (length buffer) → Expands image buffer expanded-variants.Table after
@@ -115,7 +115,7 @@ pub record Filled (card : Card) (before after : List ℤ) (x : ℕ) : Type 0 whe
 
 values-suc : (card : Card) (x : ℕ) → valuesTo card (suc x) ≡ valuesTo card x ++ runCard card x .value ∷ []
 unfolding valuesTo
-values-suc card x = ap (map (λ x. runCard card x .value)) (range-suc 0 x) ∙ map-append (range 0 x) ((0 + x) ∷ []) ∙ ap (λ n. map (λ x. runCard card x .value) (range 0 x) ++ runCard card n .value ∷ []) (zero-add x)
+values-suc card x = ap (map (λ x. runCard card x .value)) (range-suc 0 x) ∙ map-append (numbersFrom 0 x) ((0 + x) ∷ []) ∙ ap (λ n. map (λ x. runCard card x .value) (numbersFrom 0 x) ++ runCard card n .value ∷ []) (zero-add x)
   where
     map-append : (l m : List ℕ) → map (λ x. runCard card x .value) (l ++ m) ≡ map (λ x. runCard card x .value) l ++ map (λ x. runCard card x .value) m
     map-append [] m = refl
@@ -123,7 +123,7 @@ values-suc card x = ap (map (λ x. runCard card x .value)) (range-suc 0 x) ∙ m
 
 module _ (card : Card) (before after : List ℤ) where
   pub filled-none : Filled card before before 0
-  unfolding valuesTo range
+  unfolding valuesTo numbersFrom
   filled-none = record { within = omega arith; same = refl; written = refl }
 
   pub filled-more : (x : ℕ) → x < length before → Filled card before after x → Filled card before (set after x (runCard card x .value)) (x + 1)

@@ -8,7 +8,7 @@ use lib.ListN.{length, getD}
 use borrow.Author.Tests.{eqb-true, eq-eqb}
 use Rattle.numbers.specs.Answers.{Answer, accepted, refused, mapAnswer, andThen}
 use Rattle.numbers.specs.Laws.Bools.{yes-or-no}
-use Rattle.image.specs.Kinds.{kindOf, isEnd}
+use Rattle.image.specs.Inner.Kinds.{kindOf, isEnd}
 use Rattle.image.specs.Reader.{due, dueByte, dueSize, commandAt, keepsRules, placeAfter, widthIsLeast, endsWell, judged, step, followedBy, readFrom}
 use Rattle.image.specs.Laws.Due.{ends-well-last, ends-well-before}
 use Rattle.image.specs.Laws.Reading.{followed-on, followed-last, size-some}

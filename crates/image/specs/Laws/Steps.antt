@@ -8,7 +8,7 @@ use lib.Dec.{ltb, leb, eqb}
 use lib.ListN.{length, getD}
 use borrow.Author.Tests.{leb-true, eqb-true, lt-ltb, le-ltb, le-leb, lt-leb, eq-eqb, ne-eqb}
 use Rattle.numbers.specs.Answers.{Answer, accepted, refused, unless}
-use Rattle.image.specs.Kinds.{kindOf}
+use Rattle.image.specs.Inner.Kinds.{kindOf}
 use Rattle.image.specs.Reader.{Due, table, cell, word, end, due, dueByte, dueSize, commandAt, keepsRules, placeAfter, widthIsLeast, endsWell, judged, step}
 use Rattle.image.specs.declared.Command.{Command}
 use Rattle.image.specs.declared.Place.{Place}

@@ -8,11 +8,11 @@ use lib.Dec.{eqb}
 use lib.ListN.{length, getD}
 use lib.IntN.{ℤ, pos}
 use Rattle.numbers.specs.Answers.{Answer, accepted, refused, mapAnswer, andThen, unless}
-use Rattle.numbers.specs.Lists.{range}
+use Rattle.numbers.specs.Lists.{numbersFrom}
 use Rattle.numbers.specs.Laws.Lists.{length-range, getD-range, getD-map}
 use Rattle.image.specs.Cells.{Cell, Card}
 use Rattle.image.specs.Commands.{cardOf}
-use Rattle.image.specs.Evaluation.{Accepted, valuesTo}
+use Rattle.image.specs.Inner.Evaluation.{Accepted, valuesTo}
 use Rattle.image.specs.Reader.{reading}
 use Rattle.image.specs.Run.{Result, runFrom, runCard, run, cardValues, expand}
 use Rattle.image.specs.Laws.Evaluating.{is-card}
@@ -53,7 +53,7 @@ by-reading image room values (refused k) e h = absurd (let z : _≡_ {A = ℕ} 0
 value-at : (card : Card) (x : ℕ) → x < 2 ^ card .n → getD (cardValues card) x (pos 0) ≡ runCard card x .value
 unfolding cardValues
 value-at card x h =
-    getD-map (λ x. runCard card x .value) (range 0 (2 ^ card .n)) x 0 (pos 0) (subst (λ n. x < n) (sym (length-range 0 (2 ^ card .n))) h)
+    getD-map (λ x. runCard card x .value) (numbersFrom 0 (2 ^ card .n)) x 0 (pos 0) (subst (λ n. x < n) (sym (length-range 0 (2 ^ card .n))) h)
     ∙ ap (λ n. runCard card n .value) (getD-range 0 (2 ^ card .n) x 0 h ∙ zero-add x)
 
 values-count : (card : Card) → length (cardValues card) ≡ 2 ^ card .n

@@ -14,7 +14,7 @@ use mir.Facts.{fits-of-lt, sfits-lit, toZ-ofZ}
 use borrow.Author.Needs.{needs}
 use Rattle.numbers.specs.Lists.{every}
 use Rattle.numbers.specs.Ranges.{eqZ}
-use Rattle.numbers.specs.Widths.{bitLength}
+use Rattle.numbers.specs.Inner.Bits.{bitLength}
 use Rattle.numbers.specs.Laws.BitLength.{bit-length-least, pair-width}
 use Rattle.numbers.specs.Laws.Machine.{same-bits}
 use Rattle.numbers.specs.Laws.Widths.{weight-width-zero}

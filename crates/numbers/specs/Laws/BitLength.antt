@@ -13,7 +13,8 @@ use lib.IntN.{ℤ, pos}
 use lib.Signed.{mag}
 use borrow.Author.Tests.{ltb-true, lt-ltb}
 use Rattle.numbers.specs.Lists.{every}
-use Rattle.numbers.specs.Widths.{bitLength, railWidth, holds, weightWidth}
+use Rattle.numbers.specs.Inner.Bits.{bitLength}
+use Rattle.numbers.specs.Widths.{railWidth, holds, weightWidth}
 use Rattle.numbers.specs.Laws.Bools.{both, and-both}
 use Rattle.numbers.specs.Laws.Integers.{eqZ-true}
 use Rattle.numbers.specs.Laws.Least.{least-passes, least-le}

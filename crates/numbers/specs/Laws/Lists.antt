@@ -7,27 +7,27 @@ use native.Mathlib.Nat.{add-zero, add-suc, suc-add}
 use native.Mathlib.Omega.{arith}
 use lib.ListN.{length, getD, take, drop}
 use lib.Seq.{take-nil, drop-nil}
-use Rattle.numbers.specs.Lists.{range, every}
+use Rattle.numbers.specs.Lists.{numbersFrom, every}
 use Rattle.numbers.specs.Laws.Bools.{both, and-both}
 
 -- ---- runs of numbers
 
-pub length-range : (start count : ℕ) → length (range start count) ≡ count
-unfolding range
+pub length-range : (start count : ℕ) → length (numbersFrom start count) ≡ count
+unfolding numbersFrom
 length-range start zero = refl
 length-range start (suc count) = ap suc (length-range (suc start) count)
 
-pub getD-range : (start count j d : ℕ) → j < count → getD (range start count) j d ≡ start + j
-unfolding range
+pub getD-range : (start count j d : ℕ) → j < count → getD (numbersFrom start count) j d ≡ start + j
+unfolding numbersFrom
 getD-range start zero j d h = absurd (omega arith)
 getD-range start (suc count) zero d h = sym (add-zero start)
 getD-range start (suc count) (suc j) d h = getD-range (suc start) count j d (omega arith) ∙ suc-add start j ∙ sym (add-suc start j)
 
 -- A run is a shorter run and its last number.
-pub range-suc : (start count : ℕ) → range start (suc count) ≡ range start count ++ (start + count) ∷ []
-unfolding range
+pub range-suc : (start count : ℕ) → numbersFrom start (suc count) ≡ numbersFrom start count ++ (start + count) ∷ []
+unfolding numbersFrom
 range-suc start zero = ap (λ n. n ∷ []) (sym (add-zero start))
-range-suc start (suc count) = ap (λ l. start ∷ l) (range-suc (suc start) count ∙ ap (λ n. range (suc start) count ++ n ∷ []) (suc-add start count ∙ sym (add-suc start count)))
+range-suc start (suc count) = ap (λ l. start ∷ l) (range-suc (suc start) count ∙ ap (λ n. numbersFrom (suc start) count ++ n ∷ []) (suc-add start count ∙ sym (add-suc start count)))
 
 -- ---- an element of a mapped list
 

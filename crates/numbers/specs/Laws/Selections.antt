@@ -8,7 +8,7 @@ use native.Mathlib.Nat.{add-zero, add-suc, suc-add, zero-add, mul-zero, mul-suc}
 use native.Mathlib.Omega.{arith}
 use lib.ListN.{length, getD, length-append, List·getD-append}
 use lib.Seq.{getD-append-add}
-use Rattle.numbers.specs.Lists.{range, keep}
+use Rattle.numbers.specs.Lists.{numbersFrom, keep}
 use Rattle.numbers.specs.Laws.Bools.{yes-or-no}
 
 -- ---- what passes a test
@@ -172,9 +172,9 @@ flatMap-same f g (x ∷ l) h = ap₂ (λ p m. p ++ m) (h x) (flatMap-same f g l 
 -- ---- runs in two parts
 
 -- A run is its first numbers and those from there on.
-pub range-add : (start left right : ℕ) → range start (left + right) ≡ range start left ++ range (start + left) right
-unfolding range
-range-add start zero right = ap₂ range (sym (add-zero start)) (zero-add right)
+pub range-add : (start left right : ℕ) → numbersFrom start (left + right) ≡ numbersFrom start left ++ numbersFrom (start + left) right
+unfolding numbersFrom
+range-add start zero right = ap₂ numbersFrom (sym (add-zero start)) (zero-add right)
 range-add start (suc left) right =
-    ap (range start) (suc-add left right)
-    ∙ ap (λ l. start ∷ l) (range-add (suc start) left right ∙ ap (λ m. range (suc start) left ++ range m right) (suc-add start left ∙ sym (add-suc start left)))
+    ap (numbersFrom start) (suc-add left right)
+    ∙ ap (λ l. start ∷ l) (range-add (suc start) left right ∙ ap (λ m. numbersFrom (suc start) left ++ numbersFrom m right) (suc-add start left ∙ sym (add-suc start left)))

@@ -8,7 +8,7 @@ use native.Mathlib.Omega.{arith}
 use lib.ListN.{length, getD, length-append, length-map}
 use lib.Dec.{ltb}
 use borrow.Author.Tests.{ltb-true}
-use Rattle.numbers.specs.Lists.{range, keep, tally, sum}
+use Rattle.numbers.specs.Lists.{numbersFrom, keep, tally, sumOf}
 use Rattle.numbers.specs.Laws.Bools.{yes-or-no}
 use Rattle.numbers.specs.Laws.Lists.{length-range, getD-range, range-suc, map-append}
 use Rattle.numbers.specs.Laws.Selections.{keep-passed, keep-failed, keep-append, keep-same, keep-map, range-add}
@@ -127,9 +127,9 @@ tally-either {A = A} test other (a ∷ l) =
 -- ---- runs of numbers
 
 -- A run in two parts has two tallies.
-pub tally-run-append : (test : ℕ → Bool) (start count more : ℕ) → tally test (range start (count + more)) ≡ tally test (range start count) + tally test (range (start + count) more)
+pub tally-run-append : (test : ℕ → Bool) (start count more : ℕ) → tally test (numbersFrom start (count + more)) ≡ tally test (numbersFrom start count) + tally test (numbersFrom (start + count) more)
 tally-run-append test start count more =
-    ap (tally test) (range-add start count more) ∙ tally-append test (range start count) (range (start + count) more)
+    ap (tally test) (range-add start count more) ∙ tally-append test (numbersFrom start count) (numbersFrom (start + count) more)
 
 -- One outcome at the first element, one tally of the rest.
 tally-alike : {A B : Type 0} (test : A → Bool) (other : B → Bool) (a : A) (b : B) (l : List A) (m : List B) → test a ≡ other b → tally test l ≡ tally other m → tally test (a ∷ l) ≡ tally other (b ∷ m)
@@ -139,38 +139,38 @@ tally-alike test other a b l m same rest =
     (λ e. tally-failed test a l e ∙ rest ∙ sym (tally-failed other b m (sym same ∙ e)))
 
 -- Two runs of one length, place by place with one outcome.
-pub tally-runs : (test other : ℕ → Bool) (left right count : ℕ) → ((x : ℕ) → x < count → test (left + x) ≡ other (right + x)) → tally test (range left count) ≡ tally other (range right count)
-unfolding range
+pub tally-runs : (test other : ℕ → Bool) (left right count : ℕ) → ((x : ℕ) → x < count → test (left + x) ≡ other (right + x)) → tally test (numbersFrom left count) ≡ tally other (numbersFrom right count)
+unfolding numbersFrom
 tally-runs test other left right zero h = tally-nil test ∙ sym (tally-nil other)
 tally-runs test other left right (suc count) h =
-    tally-alike test other left right (range (suc left) count) (range (suc right) count)
+    tally-alike test other left right (numbersFrom (suc left) count) (numbersFrom (suc right) count)
     (rw (add-zero left, add-zero right) at (h 0 (omega arith)))
     (tally-runs test other (suc left) (suc right) count (λ x l. rw (suc-add left, suc-add right, ← (add-suc left x), ← (add-suc right x)) (h (suc x) (omega arith))))
 
 -- A run in which none is counted.
-pub none-in-run : (test : ℕ → Bool) (start count : ℕ) → tally test (range start count) ≡ 0 → (x : ℕ) → x < count → test (start + x) ≡ false
+pub none-in-run : (test : ℕ → Bool) (start count : ℕ) → tally test (numbersFrom start count) ≡ 0 → (x : ℕ) → x < count → test (start + x) ≡ false
 none-in-run test start count h x below =
-    ap test (sym (getD-range start count x 0 below)) ∙ none-passes test 0 (range start count) h x (rw length-range below)
+    ap test (sym (getD-range start count x 0 below)) ∙ none-passes test 0 (numbersFrom start count) h x (rw length-range below)
 
 -- ---- sums
 
-pub sum-append : (l m : List ℕ) → sum (l ++ m) ≡ sum l + sum m
-unfolding sum
-sum-append [] m = sym (zero-add (sum m))
+pub sum-append : (l m : List ℕ) → sumOf (l ++ m) ≡ sumOf l + sumOf m
+unfolding sumOf
+sum-append [] m = sym (zero-add (sumOf m))
 sum-append (a ∷ l) m = let rest = sum-append l m in omega arith
 
 -- A sum over a run is that over a shorter run and the last number's part.
-pub sum-run-suc : (f : ℕ → ℕ) (start count : ℕ) → sum (map f (range start (suc count))) ≡ sum (map f (range start count)) + f (start + count)
-unfolding sum
+pub sum-run-suc : (f : ℕ → ℕ) (start count : ℕ) → sumOf (map f (numbersFrom start (suc count))) ≡ sumOf (map f (numbersFrom start count)) + f (start + count)
+unfolding sumOf
 sum-run-suc f start count =
-    ap (λ l. sum (map f l)) (range-suc start count)
-    ∙ ap sum (map-append f (range start count) ((start + count) ∷ []))
-    ∙ sum-append (map f (range start count)) (f (start + count) ∷ [])
-    ∙ ap (λ n. sum (map f (range start count)) + n) (add-zero (f (start + count)))
+    ap (λ l. sumOf (map f l)) (range-suc start count)
+    ∙ ap sumOf (map-append f (numbersFrom start count) ((start + count) ∷ []))
+    ∙ sum-append (map f (numbersFrom start count)) (f (start + count) ∷ [])
+    ∙ ap (λ n. sumOf (map f (numbersFrom start count)) + n) (add-zero (f (start + count)))
 
 -- No more elements have a part in a sum than the sum says.
-pub tally-le-sum : {A : Type 0} (f : A → ℕ) (l : List A) → tally (λ a. ltb 0 (f a)) l ≤ sum (map f l)
-unfolding sum
+pub tally-le-sum : {A : Type 0} (f : A → ℕ) (l : List A) → tally (λ a. ltb 0 (f a)) l ≤ sumOf (map f l)
+unfolding sumOf
 tally-le-sum f [] = rw tally-nil (omega arith)
 tally-le-sum f (a ∷ l) =
     let rest = tally-le-sum f l in

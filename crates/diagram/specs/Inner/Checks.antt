@@ -1,0 +1,17 @@
+-- The checks on a table alone, and the outcome that the enum stands for.
+use Prim.Native.Nat.{ℕ}
+use mathlib.Core.List.{List}
+use lib.IntN.{ℤ}
+use Rattle.numbers.specs.Answers.{Answer, accepted, refused}
+use Rattle.diagram.specs.Build.{ofTable}
+use Rattle.diagram.specs.declared.Checked.{Checked}
+use Rattle.diagram.specs.declared.Checked.the-variants.{Passed, Refused}
+
+-- What those checks alone answer.
+unfoldable pub tableChecks : ℕ → List ℤ → Answer Unit
+tableChecks n table = ofTable n table (accepted tt)
+
+-- The paper's answer that the outcome of the checks on a table stands for.
+unfoldable pub checked : Checked → Answer Unit
+checked Passed = accepted tt
+checked (Refused number) = refused number

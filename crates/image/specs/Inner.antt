@@ -1,0 +1,4 @@
+-- What inner functions promise and hold.
+pub mod Bounds
+pub mod Evaluation
+pub mod Kinds

@@ -1,0 +1,4 @@
+-- What inner functions promise and hold.
+pub mod Bits
+pub mod Extremes
+pub mod Rows

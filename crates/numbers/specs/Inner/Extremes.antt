@@ -1,0 +1,13 @@
+-- The extremes of a list of integers, which are gathered one by one.
+use mathlib.Core.List.{List, [], _∷_}
+use lib.IntN.{ℤ}
+use Rattle.numbers.specs.Ranges.{lesser, greater}
+
+-- The lesser of a number and all of a list; the greater likewise.
+unfoldable pub lowest : ℤ → List ℤ → ℤ
+lowest low [] = low
+lowest low (z ∷ more) = lowest (lesser low z) more
+
+unfoldable pub highest : ℤ → List ℤ → ℤ
+highest high [] = high
+highest high (z ∷ more) = highest (greater high z) more

@@ -16,10 +16,10 @@ use Rattle.diagram.specs.Bound.{stepAt, isJump, jumps, risingKinds, nodeBound}
 use Rattle.image.specs.Bytes.{bigEndian, signedBytes, number, unsignedAt, signedAt}
 use Rattle.image.specs.Cells.{Cell, bitsOf, totalBits}
 use Rattle.image.specs.Commands.{commandBytes, wordCommand, cellCommands, cardCommands, imageOf}
-use Rattle.compiler.specs.Cascade.{wordOf, wordsOf, cellOf, cellsFrom, cardFor}
-use Rattle.compiler.specs.Groupings.{descending, closing, groupingsWithin, groupings, addressWidth, fitsFrom, fits, cost, cheapest, firstCheapest, chosen}
-use Rattle.compiler.specs.Plan.{plan}
-use Rattle.compiler.specs.Compile.{imageFor, compile}
+use Rattle.cascade.specs.Cascade.{wordOf, wordsOf, cellOf, cellsFrom, cardFor}
+use Rattle.cascade.specs.Groupings.{descending, closing, groupingsWithin, groupings, addressWidth, fitsFrom, fits, cost, cheapest, firstCheapest, chosen}
+use Rattle.cascade.specs.Plan.{plan}
+use Rattle.cascade.specs.Compile.{imageFor, compile}
 use Rattle.listing.specs.Text.{ascii, decimalDigits, decimal, fields, line}
 use Rattle.listing.specs.Listing.{imageRoom, tableOf, listed, nodeLine, nodeLines, cellLine, tableText, answerText, listing}
 

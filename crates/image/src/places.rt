@@ -25,7 +25,7 @@ pub fn start_place() -> Place
     }
 }
 
-pub(crate) fn cell_bits(incoming: usize, group: usize, outgoing: usize, width: usize) -> usize
+pub fn cell_bits(incoming: usize, group: usize, outgoing: usize, width: usize) -> usize
     requires { ⌜ CellFits incoming group outgoing width ⌝ }
     ensures { λ r. ⌜ r ≡ cellBits incoming group outgoing width ⌝ }
 {

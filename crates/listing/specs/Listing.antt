@@ -10,8 +10,8 @@ use Rattle.numbers.specs.Ranges.{isVariables}
 use Rattle.diagram.specs.Records.{Record, records, recordNumbers, offset, nodeCount}
 use Rattle.image.specs.Bytes.{signedAt}
 use Rattle.image.specs.Cells.{Cell, bitsOf, totalBits}
-use Rattle.compiler.specs.Cascade.{cellsFrom}
-use Rattle.compiler.specs.Compile.{compile}
+use Rattle.cascade.specs.Cascade.{cellsFrom}
+use Rattle.cascade.specs.Compile.{compile}
 use Rattle.listing.specs.Text.{line}
 
 -- The image buffer of the listing program.

@@ -2,7 +2,7 @@
 use Prim.Native.Nat.{ℕ, zero, suc, _^_, _<_}
 use mathlib.Core.Path.{_≡_, refl, sym, _∙_, ap}
 use mathlib.Core.Bool.{Bool, true, false, false≢true}
-use mathlib.Core.List.{List, [], _∷_}
+use mathlib.Core.List.{List, [], _∷_, _++_}
 use native.Mathlib.Nat.{le-antisymm}
 use native.Mathlib.Omega.{arith}
 use lib.Pow.{pow-pos}
@@ -142,3 +142,14 @@ width-by-extremes weights =
     refl)))
     (weight-width-least weights (weightWidth pair)
     (extremes-hold (weightWidth pair) (pos 0) (pos 0) weights (leZ-refl (pos 0)) (parts .0) (both (holds (weightWidth pair) high) true (parts .1) .0) .1 .1))
+
+-- The extremes with one number more.
+pub lowest-snoc : (low : ℤ) (l : List ℤ) (z : ℤ) → lowest low (l ++ z ∷ []) ≡ lesser (lowest low l) z
+unfolding lowest
+lowest-snoc low [] z = refl
+lowest-snoc low (y ∷ l) z = lowest-snoc (lesser low y) l z
+
+pub highest-snoc : (high : ℤ) (l : List ℤ) (z : ℤ) → highest high (l ++ z ∷ []) ≡ greater (highest high l) z
+unfolding highest
+highest-snoc high [] z = refl
+highest-snoc high (y ∷ l) z = highest-snoc (greater high y) l z

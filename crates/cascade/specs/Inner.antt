@@ -1,0 +1,4 @@
+-- What inner functions promise and hold.
+pub mod Choices
+pub mod Sizes
+pub mod Words

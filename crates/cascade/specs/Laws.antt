@@ -1,0 +1,10 @@
+-- Laws about the definitions of this crate, which proofs cite.
+pub mod Cards
+pub mod Cells
+pub mod Cheapest
+pub mod Chosen
+pub mod Groupings
+pub mod Lengths
+pub mod WellFormed
+pub mod WordReading
+pub mod Words

@@ -1,0 +1,47 @@
+// Groupings of a table's variables, the cells of their cascade, and what Plan and Compile answer.
+pub mod words;
+
+// A cell of a plan.
+pub struct Cell {
+    pub group: usize,
+    pub incoming: usize,
+    pub outgoing: usize,
+    pub width: usize,
+    pub bits: usize,
+}
+
+// Plan's verdict: the number of cells and their memory bits.
+pub enum Verdict {
+    Grouping { cells: usize, bits: usize },
+    Refused(u8),
+}
+
+// Plan's answer: the verdict beside the sizes and the cells, which hold 0 past the last one.
+pub struct Planned {
+    pub verdict: Verdict,
+    pub sizes: [usize; 12],
+    pub cells: [Cell; 12],
+}
+
+// Compile's verdict: the image's length, the node count, the number of cells and their memory bits.
+pub enum Outcome {
+    Image {
+        length: usize,
+        nodes: usize,
+        cells: usize,
+        bits: usize,
+    },
+    Refused(u8),
+}
+
+// Compile's answer: the outcome beside Plan's cells, all 0 in a refusal. The image stands in the lent buffer.
+pub struct Compiled {
+    pub outcome: Outcome,
+    pub cells: [Cell; 12],
+}
+
+// The choice at a cut: no list of sizes from there on fits, or the least cost of one and the first size to take.
+pub enum Choice {
+    NoList,
+    Costing { cost: usize, size: usize },
+}

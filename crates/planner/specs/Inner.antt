@@ -1,0 +1,4 @@
+-- What inner functions promise and hold.
+pub mod Listed
+pub mod Ready
+pub mod Rows

@@ -1,0 +1,8 @@
+-- Laws about the definitions of this crate, which proofs cite.
+pub mod Choosing
+pub mod Leading
+pub mod Listed
+pub mod Padding
+pub mod Plans
+pub mod Pricing
+pub mod Rows

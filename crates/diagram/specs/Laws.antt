@@ -10,6 +10,7 @@ pub mod CutRecords
 pub mod Edges
 pub mod Fits
 pub mod Forks
+pub mod NodeCount
 pub mod Nodes
 pub mod Numbering
 pub mod Paths

@@ -9,7 +9,8 @@ use lib.Signed.{_≤ℤ_}
 use Rattle.numbers.specs.Laws.Order.{le-less-one-times}
 use Rattle.diagram.specs.Records.{nodeCount}
 use Rattle.diagram.specs.Bound.{jumps, risingKinds, nodeBound}
-use Rattle.diagram.specs.Laws.Counting.Heights.{node-count, low-heights, above-height}
+use Rattle.diagram.specs.Laws.Counting.Heights.{low-heights, above-height}
+use Rattle.diagram.specs.Laws.NodeCount.{node-count}
 
 -- Over the natural numbers, without subtraction: the node count and l are at most 2^(n-l) + (sum over i = 1..l of (p+1)^(2^i - 1)) + k·l.
 pub node-bound-natural : (n : ℕ) (table : List ℤ) → length table ≡ 2 ^ n → (p l : ℕ) → 1 ≤ l → l ≤ n → nodeCount n table + l ≤ 2 ^ (n - l) + risingKinds p l + jumps n table p * l

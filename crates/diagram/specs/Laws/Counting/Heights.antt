@@ -1,38 +1,15 @@
 -- The records of all heights, counted: up to height l by rising lists and jumps, above it by blocks.
 use Prim.Native.Nat.{ℕ, zero, suc, _+_, _-_, _*_, _^_, _≤_}
-use mathlib.Core.Path.{_≡_, refl, _∙_, ap, ap₂}
-use mathlib.Core.List.{List, [], _∷_, _++_, flatMap, append-nil}
-use native.Mathlib.Nat.{zero-add, add-zero, add-suc, sub-self, pow-zero, two-pow-succ}
+use mathlib.Core.Path.{_≡_, _∙_, ap}
+use mathlib.Core.List.{List}
+use native.Mathlib.Nat.{add-zero, add-suc, sub-self, pow-zero, two-pow-succ}
 use native.Mathlib.Omega.{arith}
-use lib.ListN.{length, length-append, length-map}
+use lib.ListN.{length}
 use lib.IntN.{ℤ}
-use Rattle.numbers.specs.Lists.{numbersFrom}
-use Rattle.numbers.specs.Laws.Lists.{range-suc}
 use Rattle.numbers.specs.Laws.Tallies.{sum-run-suc}
-use Rattle.numbers.specs.Laws.Selections.{flatMap-append}
-use Rattle.diagram.specs.Records.{kinds, recordsBelow, recordOf, recordsAt, records, nodeCount}
+use Rattle.diagram.specs.Records.{recordsBelow}
 use Rattle.diagram.specs.Bound.{jumps, risingKinds}
 use Rattle.diagram.specs.Laws.Counting.Kinds.{kinds-le-blocks, kinds-le-rising}
-
--- ---- the records of the heights up to one
-
--- The records of the variables below m, counted one by one.
-records-below : (n : ℕ) (table : List ℤ) (m : ℕ) → length (flatMap (recordsAt n table) (numbersFrom 0 m)) ≡ recordsBelow n table m
-unfolding flatMap numbersFrom recordsBelow recordsAt
-records-below n table zero = refl
-records-below n table (suc m) =
-    ap (λ l. length (flatMap (recordsAt n table) l)) (range-suc 0 m)
-    ∙ ap length (flatMap-append (recordsAt n table) (numbersFrom 0 m) ((0 + m) ∷ []))
-    ∙ length-append (flatMap (recordsAt n table) (numbersFrom 0 m)) (recordsAt n table (0 + m) ++ [])
-    ∙ ap₂ _+_ (records-below n table m)
-    (ap length (append-nil (recordsAt n table (0 + m)))
-    ∙ length-map (kinds n table (0 + m)) (recordOf n table (0 + m))
-    ∙ ap (λ i. length (kinds n table i)) (zero-add m))
-
--- The node count is the records of all heights and the terminal.
-pub node-count : (n : ℕ) (table : List ℤ) → nodeCount n table ≡ suc (recordsBelow n table n)
-unfolding nodeCount records
-node-count n table = ap suc (records-below n table n)
 
 -- The sum of the bound with one height more.
 pub rising-kinds-suc : (p l : ℕ) → risingKinds p (suc l) ≡ risingKinds p l + (p + 1) ^ (2 ^ suc l - 1)

@@ -8,6 +8,7 @@ pub mod Checks
 pub mod Counting
 pub mod CutRecords
 pub mod Edges
+pub mod FirstBlocks
 pub mod Fits
 pub mod Forks
 pub mod NodeCount

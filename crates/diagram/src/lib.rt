@@ -1,12 +1,11 @@
 // The reduced edge-valued decision diagram of a table: Build and Walk.
 mod building;
-mod forks;
+pub mod forks;
 mod lists;
 pub mod tables;
 mod walking;
 
 ghost use mathlib.Core.Path.{_≡_};
-ghost use Prim.Native.Nat.{_<_};
 ghost use Rattle.diagram.specs.Build.{Builds};
 ghost use Rattle.diagram.specs.Walk.{walk, walked};
 

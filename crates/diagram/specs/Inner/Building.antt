@@ -28,13 +28,17 @@ pub record NodesKnown (n : ℕ) (table : List ℤ) (h : ℕ) (row : List ℕ) : 
   pub places : cutPlace (suc n) ≤ length row
   pub known : (c : ℕ) → c < classCount n table h → getD row (cutPlace h + c) 0 ≡ node n table (n - h) (classAt n table h c)
 
--- Where the fork of class c of cut h can be read: the rows of classes, and the nodes of the next cut.
-pub record Forking (n h c : ℕ) (table : List ℤ) (classRow firstRow row : List ℕ) : Type 0 where
-  pub accepted : Accepted n table
+-- Class c of cut h, which lies above a variable, of an accepted table; the row has the first block of each class of all cuts.
+pub record ClassOfCut (n h c : ℕ) (table : List ℤ) (firstRow : List ℕ) : Type 0 where
+  pub admitted : Accepted n table
   pub cut : h < n
-  pub class : c < classCount n table h
-  pub numbered : classRow ≡ allNumbers n table
+  pub known : c < classCount n table h
   pub placed : firstRow ≡ allFirsts n table
+
+-- Where its fork can be read: the row of all blocks' classes, and the nodes of the next cut.
+pub record Forking (n h c : ℕ) (table : List ℤ) (classRow firstRow row : List ℕ) : Type 0 where
+  pub class : ClassOfCut n h c table firstRow
+  pub numbered : classRow ≡ allNumbers n table
   pub below : NodesKnown n table (suc h) row
 
 -- Room for one record more, where class c of cut h branches.

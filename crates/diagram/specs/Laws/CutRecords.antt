@@ -143,7 +143,7 @@ module _ {n h count before : ℕ} {table : List ℤ} {classRow firstRow row₀ :
     -- The next class can be read, and there is room for its record.
     module _ (below : c < classCount n table h) where
       pub cut-forking : Forking n h c table classRow firstRow row
-      cut-forking = record { accepted = r .accepted; cut = r .cut; class = below; numbered = r .numbered; placed = r .placed; below = next-known }
+      cut-forking = record { class = record { admitted = r .accepted; cut = r .cut; known = below; placed = r .placed }; numbered = r .numbered; below = next-known }
 
       abbrev here : List ℤ
       here = classAt n table h c

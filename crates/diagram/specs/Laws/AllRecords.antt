@@ -20,8 +20,8 @@ use Rattle.diagram.specs.Build.{nodeRoom}
 use Rattle.diagram.specs.Records.{recordsBelow, node, recordsAt, records, recordNumbers, recordSize}
 use Rattle.diagram.specs.Inner.Building.{NodesKnown, CutReady, CutRecorded, BuildReady, AllRecorded}
 use Rattle.diagram.specs.Laws.Checks.{variables-range}
-use Rattle.diagram.specs.Laws.CutRecords.{cut-known, numbers-length}
-use Rattle.diagram.specs.Laws.Numbering.{records-before, records-count, records-room, below-more}
+use Rattle.diagram.specs.Laws.CutRecords.{cut-known}
+use Rattle.diagram.specs.Laws.Numbering.{numbers-length, records-before, records-count, records-room, below-more}
 use Rattle.blocks.specs.Laws.Places.{place-inside, length-counts, count-at}
 
 -- The numbers of the records of the variables below i.

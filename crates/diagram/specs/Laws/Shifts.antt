@@ -1,11 +1,10 @@
 -- One constant added to every value: which blocks branch, and what the halves' differences are, stays.
 use Prim.Native.Nat.{ℕ, _^_}
 use mathlib.Core.Path.{_≡_, refl, sym, _∙_, ap, ap₂}
-use mathlib.Core.Bool.{true, false, not, true≢false, _&&_}
+use mathlib.Core.Bool.{not, true≢false, _&&_}
 use mathlib.Core.List.{List, [], _∷_, map}
 use lib.ListN.{take, drop}
 use lib.IntN.{ℤ, negℤ, _+ℤ_, _-ℤ_, +ℤ-negℤ-cancel}
-use borrow.Author.Tests.{not-false}
 use Rattle.numbers.specs.Ranges.{eqZ}
 use Rattle.numbers.specs.Laws.Bools.{yes-or-no}
 use Rattle.numbers.specs.Laws.Integers.{eqZ-true, eqZ-refl}
@@ -13,7 +12,6 @@ use Rattle.numbers.specs.Laws.Lists.{map-take, map-drop}
 use Rattle.blocks.specs.Blocks.{first, lowerHalf, upperHalf, differences}
 use Rattle.blocks.specs.Classes.{same}
 use Rattle.blocks.specs.Laws.Differences.{differences-less}
-use Rattle.blocks.specs.Laws.Same.{same-true, equal-same}
 use Rattle.diagram.specs.Records.{branches}
 
 -- Every value more by one constant.
@@ -71,12 +69,3 @@ same-lower i left right e = sym (lower-differences i left) ∙ ap (λ d. differe
 
 pub same-upper : (i : ℕ) (left right : List ℤ) → differences left ≡ differences right → differences (upperHalf i left) ≡ differences (upperHalf i right)
 same-upper i left right e = sym (upper-differences i left) ∙ ap (λ d. differences (upperHalf i d)) e ∙ upper-differences i right
-
--- A block that does not branch has equal halves, and one that does has not.
-pub passing-halves : (i : ℕ) (values : List ℤ) → branches i values ≡ false → lowerHalf i values ≡ upperHalf i values
-unfolding branches
-passing-halves i values e = same-true (lowerHalf i values) (upperHalf i values) (not-false (same (lowerHalf i values) (upperHalf i values)) e)
-
-pub branching-halves : (i : ℕ) (values : List ℤ) → branches i values ≡ true → lowerHalf i values ≡ upperHalf i values → ⊥
-unfolding branches
-branching-halves i values b e = true≢false (sym b ∙ ap not (equal-same (lowerHalf i values) (upperHalf i values) e))

@@ -2,14 +2,16 @@
 use Prim.Native.Nat.{ℕ, zero, suc, _+_, _-_, _*_, _^_, _≤_}
 use mathlib.Core.Path.{_≡_, _∙_, ap}
 use mathlib.Core.List.{List}
-use native.Mathlib.Nat.{add-zero, add-suc, sub-self, pow-zero, two-pow-succ}
+use native.Mathlib.Nat.{add-zero, add-suc, sub-self, pow-zero}
 use native.Mathlib.Omega.{arith}
 use lib.ListN.{length}
 use lib.IntN.{ℤ}
 use Rattle.numbers.specs.Laws.Tallies.{sum-run-suc}
 use Rattle.diagram.specs.Records.{recordsBelow}
 use Rattle.diagram.specs.Bound.{jumps, risingKinds}
-use Rattle.diagram.specs.Laws.Counting.Kinds.{kinds-le-blocks, kinds-le-rising}
+use Rattle.diagram.specs.Laws.Counting.Kinds.{kinds-le-rising}
+use Rattle.diagram.specs.Laws.Alike.{twice-blocks}
+use Rattle.diagram.specs.Laws.Nodes.{kinds-le}
 
 -- The sum of the bound with one height more.
 pub rising-kinds-suc : (p l : ℕ) → risingKinds p (suc l) ≡ risingKinds p l + (p + 1) ^ (2 ^ suc l - 1)
@@ -36,10 +38,7 @@ unfolding recordsBelow
 high-heights n table l zero h = rw (add-zero l) (omega arith)
 high-heights n table l (suc m) h =
     let below = high-heights n table l m (omega arith) in
-    rw (add-suc l m) (omega (arith, kinds-le-blocks n table (l + m), halved))
-  where
-    halved : 2 ^ (n - (l + m)) ≡ 2 ^ (n - suc (l + m)) + 2 ^ (n - suc (l + m))
-    halved = ap (λ k. 2 ^ k) (let e : n - (l + m) ≡ suc (n - suc (l + m)) = omega arith in e) ∙ two-pow-succ (n - suc (l + m))
+    rw (add-suc l m) (omega (arith, kinds-le n table (l + m), twice-blocks n (l + m) (omega arith)))
 
 -- The heights above l have fewer records than there are blocks of height l.
 pub above-height : (n : ℕ) (table : List ℤ) (l : ℕ) → l ≤ n → recordsBelow n table n + 1 ≤ recordsBelow n table l + 2 ^ (n - l)

@@ -1,7 +1,7 @@
--- What the records of one variable stand for, counted: no more than blocks, and no more than rising lists and jumps.
+-- What the records of one variable stand for, counted: no more than rising lists and jumps.
 use Prim.Native.Nat.{ℕ, suc, _+_, _-_, _^_, _≤_, _<_}
 use mathlib.Core.Path.{_≡_, sym, _∙_, ap}
-use mathlib.Core.Bool.{Bool, true, false, not, _||_, true≢false}
+use mathlib.Core.Bool.{Bool, true, false, _||_}
 use mathlib.Core.List.{List, [], map}
 use native.Mathlib.Nat.{zero-add, two-pow-succ}
 use native.Mathlib.Omega.{arith}
@@ -16,15 +16,15 @@ use Rattle.numbers.specs.Laws.Bools.{yes-or-no}
 use Rattle.numbers.specs.Laws.Lists.{length-range, getD-range, getD-map}
 use Rattle.numbers.specs.Laws.Order.{no-difference}
 use Rattle.numbers.specs.Laws.Powers.{power-split, part-room}
-use Rattle.numbers.specs.Laws.Tallies.{kept-all, tally-le-length, tally-keep-le, tally-map, tally-runs, tally-le-sum}
+use Rattle.numbers.specs.Laws.Tallies.{kept-all, tally-keep-le, tally-map, tally-runs, tally-le-sum}
 use Rattle.blocks.specs.Blocks.{block, blocks, first, lowerHalf, upperHalf, differences}
 use Rattle.blocks.specs.Classes.{same}
 use Rattle.blocks.specs.Laws.Blocks.{blocks-count, block-length}
 use Rattle.blocks.specs.Laws.Differences.{length-differences, differences-at, first-differences}
-use Rattle.blocks.specs.Laws.Known.{distinct-length}
-use Rattle.blocks.specs.Laws.Same.{same-true, equal-same}
+use Rattle.blocks.specs.Laws.Same.{same-true}
 use Rattle.diagram.specs.Records.{branches, kinds}
 use Rattle.diagram.specs.Bound.{jumps}
+use Rattle.diagram.specs.Laws.Branching.{branched-halves}
 use Rattle.diagram.specs.Laws.Counting.Different.{isAmong, distinct-le}
 use Rattle.diagram.specs.Laws.Counting.Jumps.{jumps-of-differences, jumps-in-blocks, no-jumps}
 use Rattle.diagram.specs.Laws.Counting.Rising.{changing, changing-count, changing-complete}
@@ -42,10 +42,10 @@ one-value values k e x h =
 
 -- A branching block is not constant.
 branching-changes : (i : ℕ) (values : List ℤ) (k : ℕ) → length values ≡ 2 ^ suc i → branches i values ≡ true → same (differences values) (replicate k (pos 0)) ≡ false
-unfolding branches lowerHalf upperHalf
+unfolding lowerHalf upperHalf
 branching-changes i values k e h =
     yes-or-no (same (differences values) (replicate k (pos 0)))
-    (λ c. absurd (true≢false (sym h ∙ ap not (equal-same (lowerHalf i values) (upperHalf i values) (halves (same-true (differences values) (replicate k (pos 0)) c))))))
+    (λ c. absurd (branched-halves i values h (halves (same-true (differences values) (replicate k (pos 0)) c))))
     (λ c. c)
   where
     halves : differences values ≡ replicate k (pos 0) → lowerHalf i values ≡ upperHalf i values
@@ -60,17 +60,6 @@ branching-changes i values k e h =
       where
         lengths : length (take (2 ^ i) values) ≡ length (drop (2 ^ i) values)
         lengths = omega (arith, length-take (2 ^ i) values, length-drop (2 ^ i) values, two-pow-succ i)
-
--- ---- the kinds of one variable
-
--- There are no more kinds of a variable than blocks.
-pub kinds-le-blocks : (n : ℕ) (table : List ℤ) (i : ℕ) → length (kinds n table i) ≤ 2 ^ (n - suc i)
-unfolding kinds tally
-kinds-le-blocks n table i =
-    let different = distinct-length (map differences (keep (branches i) (blocks n table (suc i)))) in
-    let mapped = length-map (keep (branches i) (blocks n table (suc i))) differences in
-    let kept = tally-le-length (branches i) (blocks n table (suc i)) in
-    omega (arith, blocks-count n table (suc i))
 
 -- ---- kinds with a jump, and without
 

@@ -31,10 +31,10 @@ build n table room = ofTable n table (unless (leb (nodeRoom n) room) 4 (accepted
 -- Node count and offset.
 pub record Summary : Type 0 where
   pub nodes : ℕ
-  pub offset : ℤ
+  pub tableOffset : ℤ
 
 unfoldable pub buildAnswer : ℕ → List ℤ → ℕ → Answer Summary
-buildAnswer n table room = mapAnswer (λ rs. record { nodes = nodeCount n table; offset = offset table }) (build n table room)
+buildAnswer n table room = mapAnswer (λ rs. record { nodes = nodeCount n table; tableOffset = offset table }) (build n table room)
 
 -- What the lent node buffer holds after Build.
 unfoldable pub buildBuffer : ℕ → List ℤ → List ℤ → List ℤ
@@ -42,7 +42,7 @@ buildBuffer n table buffer = bufferAfter (build n table (length buffer)) (flatMa
 
 -- The paper's answer that a value of the enum stands for.
 unfoldable pub built : Built → Answer Summary
-built (Diagram nodes offset) = accepted (record { nodes = nodes; offset = offset })
+built (Diagram count start) = accepted (record { nodes = count; tableOffset = start })
 built (Refused number) = refused number
 
 -- Build's promise: its answer, and what its buffer then holds.

@@ -54,9 +54,9 @@ pub record ClassPlaced (n h c made : ℕ) (table : List ℤ) (row : List ℕ) (n
 
 -- What the classes of cut h start from: the rows of classes, the nodes of the next cut, and the records of the variables below.
 pub record CutReady (n h count made : ℕ) (table : List ℤ) (classRow firstRow row : List ℕ) (nodes : List ℤ) : Type 0 where
-  pub accepted : Accepted n table
+  pub admitted : Accepted n table
   pub cut : h < n
-  pub classes : count ≡ classCount n table h
+  pub classCounted : count ≡ classCount n table h
   pub numbered : classRow ≡ allNumbers n table
   pub placed : firstRow ≡ allFirsts n table
   pub below : NodesKnown n table (suc h) row
@@ -71,7 +71,7 @@ pub record CutRecorded (n h made : ℕ) (table : List ℤ) (row : List ℕ) (nod
 
 -- An accepted table, rows for the classes of all its cuts, and a buffer with room for its records.
 pub record TableRoom (n : ℕ) (table : List ℤ) (classRow firstRow countRow : List ℕ) (nodes : List ℤ) : Type 0 where
-  pub accepted : Accepted n table
+  pub admitted : Accepted n table
   pub classPlaces : length classRow ≡ cutPlace (suc n)
   pub firstPlaces : length firstRow ≡ cutPlace (suc n)
   pub countPlaces : length countRow ≡ suc n
@@ -79,7 +79,7 @@ pub record TableRoom (n : ℕ) (table : List ℤ) (classRow firstRow countRow : 
 
 -- The same with the classes in the rows.
 pub record BuildReady (n : ℕ) (table : List ℤ) (classRow firstRow countRow : List ℕ) (nodes : List ℤ) : Type 0 where
-  pub accepted : Accepted n table
+  pub admitted : Accepted n table
   pub numbered : classRow ≡ allNumbers n table
   pub placed : firstRow ≡ allFirsts n table
   pub counts : countRow ≡ allCounts n table

@@ -81,7 +81,7 @@ module _ (n : ℕ) (table : List ℤ) where
     unfolding built buildAnswer buildBuffer offset nodeCount
     build-done {made} {nodes′} start l d e = record {
       answered =
-          ap₂ (λ m z. accepted (record { nodes = m; offset = z })) (add-one made ∙ ap suc (d .counted)) e
-          ∙ ap (mapAnswer (λ rs. record { nodes = suc (length (records n table)); offset = first table })) (sym (build-reached l));
+          ap₂ (λ m z. accepted (record { nodes = m; tableOffset = z })) (add-one made ∙ ap suc (d .counted)) e
+          ∙ ap (mapAnswer (λ rs. record { nodes = suc (length (records n table)); tableOffset = first table })) (sym (build-reached l));
       left = d .recorded ∙ overwritten-front nodes (flatMap recordNumbers (records n table)) ∙ ap (λ b. bufferAfter b (flatMap recordNumbers) nodes) (sym (build-reached l));
     }

@@ -138,7 +138,7 @@ module _ {n h count before : ℕ} {table : List ℤ} {classRow firstRow row₀ :
     -- The next class can be read, and there is room for its record.
     module _ (below : c < classCount n table h) where
       pub cut-forking : Forking n h c table classRow firstRow row
-      cut-forking = record { class = record { admitted = r .accepted; cut = r .cut; known = below; placed = r .placed }; numbered = r .numbered; below = next-known }
+      cut-forking = record { class = record { admitted = r .admitted; cut = r .cut; known = below; placed = r .placed }; numbered = r .numbered; below = next-known }
 
       abbrev here : List ℤ
       here = classAt n table h c
@@ -168,7 +168,7 @@ module _ {n h count before : ℕ} {table : List ℤ} {classRow firstRow row₀ :
         few =
             (let f = few-records c in
             let a = s .counted in
-            let p = pow-mono {i = n} {j = 12} (variables-range n (r .accepted .variables) .1) in
+            let p = pow-mono {i = n} {j = 12} (variables-range n (r .admitted .variables) .1) in
             omega arith);
         room = room-for;
       }
@@ -272,7 +272,7 @@ module _ {n h count before : ℕ} {table : List ℤ} {classRow firstRow row₀ :
 -- The nodes of the cut are then known.
 pub cut-known : {n h made : ℕ} {table : List ℤ} {row : List ℕ} {nodes : List ℤ} {made′ : ℕ} {row′ : List ℕ} {nodes′ : List ℤ} → h ≤ n → cutPlace (suc n) ≤ length row → CutRecorded n h made table row nodes made′ row′ nodes′ → NodesKnown n table h row′
 unfolding classAt classCount
-cut-known {n} {h} {made} {table} {row} {nodes} {made′} {row′} {nodes′} within places d = record {
+cut-known {n} {h} {made} {table} {row} {nodes} {made′} {row′} {nodes′} cut places d = record {
   places = rw (ap length (d .noted) ∙ length-overwritten row (cutPlace h) new inside) places;
   known = λ c l. ap (λ x. getD x (cutPlace h + c) 0) (d .noted) ∙ new-entry row (cutPlace h) new inside c 0 (rw length-map l) ∙ getD-map (node n table (n - h)) (classes n table h) c [] 0 l;
 }
@@ -281,4 +281,4 @@ cut-known {n} {h} {made} {table} {row} {nodes} {made′} {row′} {nodes′} wit
     new = map (node n table (n - h)) (classes n table h)
 
     inside : cutPlace h + length new ≤ length row
-    inside = rw length-map (let m = class-count-le n table h within in let w = cut-within n h within in omega arith)
+    inside = rw length-map (let m = class-count-le n table h cut in let w = cut-within n h cut in omega arith)

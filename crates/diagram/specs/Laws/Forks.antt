@@ -77,10 +77,10 @@ module _ {n h c : ℕ} {table : List ℤ} {classRow firstRow row : List ℕ} (f 
   cut-fits = let s = cut-small class in (omega arith, omega arith)
 
   -- The class's first block.
-  abbrev pub j : ℕ
-  j = firstOf class
+  abbrev firstNumber : ℕ
+  firstNumber = firstOf class
 
-  pub first-small : j * 2 + 1 < 2 ^ 64
+  pub first-small : firstNumber * 2 + 1 < 2 ^ 64
   first-small = let p = first-below class in let s = cut-small class in let m = pow-mono {i = h} {j = 12} (omega arith) in omega arith
 
   -- Block b of the next cut: its class, and the node that the row has for it.
@@ -112,73 +112,73 @@ module _ {n h c : ℕ} {table : List ℤ} {classRow firstRow row : List ℕ} (f 
         ∙ ap (node n table half) (class-stands n table (suc h) cut b inside)
         ∙ node-differences n table half (block table half b)
 
-  low-inside : j * 2 < 2 ^ suc h
+  low-inside : firstNumber * 2 < 2 ^ suc h
   low-inside = let p = first-below class in omega (arith, two-pow-succ h)
 
-  high-inside : j * 2 + 1 < 2 ^ suc h
+  high-inside : firstNumber * 2 + 1 < 2 ^ suc h
   high-inside = let p = first-below class in omega (arith, two-pow-succ h)
 
   -- The places that are read.
-  pub low-class-place : cutPlace (h + 1) + j * 2 < length classRow
-  low-class-place = class-place (j * 2) low-inside
+  pub low-class-place : cutPlace (h + 1) + firstNumber * 2 < length classRow
+  low-class-place = class-place (firstNumber * 2) low-inside
 
-  pub high-class-place : cutPlace (h + 1) + (j * 2 + 1) < length classRow
-  high-class-place = class-place (j * 2 + 1) high-inside
+  pub high-class-place : cutPlace (h + 1) + (firstNumber * 2 + 1) < length classRow
+  high-class-place = class-place (firstNumber * 2 + 1) high-inside
 
   abbrev pub low-class : ℕ
-  low-class = getD classRow (cutPlace (h + 1) + j * 2) 0
+  low-class = getD classRow (cutPlace (h + 1) + firstNumber * 2) 0
 
   abbrev pub high-class : ℕ
-  high-class = getD classRow (cutPlace (h + 1) + (j * 2 + 1)) 0
+  high-class = getD classRow (cutPlace (h + 1) + (firstNumber * 2 + 1)) 0
 
   pub low-node-place : cutPlace (h + 1) + low-class < length row
-  low-node-place = node-place (j * 2) low-inside
+  low-node-place = node-place (firstNumber * 2) low-inside
 
   pub high-node-place : cutPlace (h + 1) + high-class < length row
-  high-node-place = node-place (j * 2 + 1) high-inside
+  high-node-place = node-place (firstNumber * 2 + 1) high-inside
 
   pub half-fits : n - (h + 1) < 64
   half-fits = let v = variables-range n (admitted .variables) .1 in omega arith
 
-  pub weight-place : (j * 2 + 1) * 2 ^ half < length table
+  pub weight-place : (firstNumber * 2 + 1) * 2 ^ half < length table
   weight-place =
-      let r = part-room (2 ^ (n - half)) half (j * 2 + 1) (rw (let e : n - half ≡ suc h = (let l = cut in omega arith) in e) high-inside) in
+      let r = part-room (2 ^ (n - half)) half (firstNumber * 2 + 1) (rw (let e : n - half ≡ suc h = (let l = cut in omega arith) in e) high-inside) in
       let p = pow-pos half in
       let s = admitted .size in
       omega (arith, power-split n half (omega arith))
 
   -- The first block's halves are those of the class.
   abbrev whole-block : List ℤ
-  whole-block = block table (suc half) j
+  whole-block = block table (suc half) firstNumber
 
   abbrev lower-block : List ℤ
-  lower-block = block table half (j * 2)
+  lower-block = block table half (firstNumber * 2)
 
   abbrev upper-block : List ℤ
-  upper-block = block table half (j * 2 + 1)
+  upper-block = block table half (firstNumber * 2 + 1)
 
-  place-of-height : j < 2 ^ (n - suc half)
+  place-of-height : firstNumber < 2 ^ (n - suc half)
   place-of-height = rw (let e : n - suc half ≡ h = (let l = cut in omega arith) in e) (first-below class)
 
   height-inside : suc half ≤ n
   height-inside = let l = cut in omega arith
 
   is-lower : lowerHalf half whole-block ≡ lower-block
-  is-lower = lower-of-block table half j
+  is-lower = lower-of-block table half firstNumber
 
   is-upper : upperHalf half whole-block ≡ upper-block
-  is-upper = upper-of-block n table (admitted .size) half j height-inside place-of-height
+  is-upper = upper-of-block n table (admitted .size) half firstNumber height-inside place-of-height
 
   low-is : getD row (cutPlace (h + 1) + low-class) 0 ≡ node n table half (lowerHalf half (classAt n table h c))
-  low-is = is-node (j * 2) low-inside ∙ ap (node n table half) (sym is-lower) ∙ same-node n table half (lowerHalf half whole-block) (lowerHalf half (classAt n table h c)) (same-lower half whole-block (classAt n table h c) (first-alike class))
+  low-is = is-node (firstNumber * 2) low-inside ∙ ap (node n table half) (sym is-lower) ∙ same-node n table half (lowerHalf half whole-block) (lowerHalf half (classAt n table h c)) (same-lower half whole-block (classAt n table h c) (first-alike class))
 
   high-is : getD row (cutPlace (h + 1) + high-class) 0 ≡ node n table half (upperHalf half (classAt n table h c))
-  high-is = is-node (j * 2 + 1) high-inside ∙ ap (node n table half) (sym is-upper) ∙ same-node n table half (upperHalf half whole-block) (upperHalf half (classAt n table h c)) (same-upper half whole-block (classAt n table h c) (first-alike class))
+  high-is = is-node (firstNumber * 2 + 1) high-inside ∙ ap (node n table half) (sym is-upper) ∙ same-node n table half (upperHalf half whole-block) (upperHalf half (classAt n table h c)) (same-upper half whole-block (classAt n table h c) (first-alike class))
 
   weight-is : first upper-block -ℤ first lower-block ≡ first (upperHalf half (classAt n table h c)) -ℤ first (lowerHalf half (classAt n table h c))
   weight-is =
       ap₂ (λ u l. first u -ℤ first l) (sym is-upper) (sym is-lower)
-      ∙ sym (weight-of-differences half whole-block (rw (whole-length n table (admitted .size) (suc half) j height-inside place-of-height) (omega (arith, two-pow-succ half, pow-pos half))))
+      ∙ sym (weight-of-differences half whole-block (rw (whole-length n table (admitted .size) (suc half) firstNumber height-inside place-of-height) (omega (arith, two-pow-succ half, pow-pos half))))
       ∙ ap (λ d. first (upperHalf half d) -ℤ first (lowerHalf half d)) (first-stands class)
 
   -- What is read is the fork of the class.
@@ -201,7 +201,7 @@ module _ {n h c : ℕ} {table : List ℤ} {classRow firstRow row : List ℕ} (f 
       omega arith
 
   class-like : BlockLike n table (suc half) (classAt n table h c)
-  class-like = record { place = j; inside = place-of-height; alike = sym (first-alike class) }
+  class-like = record { place = firstNumber; inside = place-of-height; alike = sym (first-alike class) }
 
   node-small : (values : List ℤ) → BlockLike n table half values → node n table half values < 4096
   node-small values b =
@@ -223,4 +223,4 @@ module _ {n h c : ℕ} {table : List ℤ} {classRow firstRow row : List ℕ} (f 
   )
 
   pub fork-weight-fits : SFits w32 (first (upperHalf half (classAt n table h c)) -ℤ first (lowerHalf half (classAt n table h c)))
-  fork-weight-fits = rw (← weight-is) (weight-fits table half j (admitted .values) weight-place)
+  fork-weight-fits = rw (← weight-is) (weight-fits table half firstNumber (admitted .values) weight-place)

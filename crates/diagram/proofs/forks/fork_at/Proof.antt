@@ -11,8 +11,8 @@ use mir.Facts.{toZ-ofZ}
 use borrow.Author.Needs.{needs, sfits-of}
 use Rattle.blocks.specs.Blocks.{block, first}
 use Rattle.blocks.specs.Inner.Layout.{cutPlace}
-use Rattle.diagram.specs.Laws.Forks.{j, low-class, high-class, cut-fits, first-small, low-class-place, high-class-place, low-node-place, high-node-place, half-fits, weight-place, forkRead, fork-is}
-use Rattle.diagram.specs.Laws.FirstBlocks.{first-place}
+use Rattle.diagram.specs.Laws.Forks.{low-class, high-class, cut-fits, first-small, low-class-place, high-class-place, low-node-place, high-node-place, half-fits, weight-place, forkRead, fork-is}
+use Rattle.diagram.specs.Laws.FirstBlocks.{firstOf, first-place}
 use Rattle.diagram.proofs.forks.fork_at.Statement.{statement}
 use Rattle.diagram.proofs.forks.fork_at.Tie as tie
 
@@ -87,7 +87,7 @@ module _ (c : tie.After-class-branches) where
   is-high : c .before .before .before .before .in-cut3 .result ≡ high-class (start .pre)
   is-high = c .before .before .before .before .in-cut3 .ensures ∙ ap (λ k. getD (start .args .classes .now) (cutPlace (start .args .h + 1) + (k * 2 + 1)) 0) (low-read .before .in-cut .ensures)
 
-  is-weight : toZ w32 (ofZ w32 (c .before .before .before .weight-of-block .result)) ≡ first (block (start .args .table .now) (start .args .n - suc (start .args .h)) (j (start .pre) * 2 + 1)) -ℤ first (block (start .args .table .now) (start .args .n - suc (start .args .h)) (j (start .pre) * 2))
+  is-weight : toZ w32 (ofZ w32 (c .before .before .before .weight-of-block .result)) ≡ first (block (start .args .table .now) (start .args .n - suc (start .args .h)) (firstOf (start .pre .class) * 2 + 1)) -ℤ first (block (start .args .table .now) (start .args .n - suc (start .args .h)) (firstOf (start .pre .class) * 2))
   is-weight =
       toZ-ofZ (sfits-of (c .before .before .before .weight-of-block .ok))
       ∙ c .before .before .before .weight-of-block .ensures

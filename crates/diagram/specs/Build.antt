@@ -33,6 +33,7 @@ pub record Summary : Type 0 where
   pub nodes : ℕ
   pub tableOffset : ℤ
 
+-- What Build answers beside its buffer.
 unfoldable pub buildAnswer : ℕ → List ℤ → ℕ → Answer Summary
 buildAnswer n table room = mapAnswer (λ rs. record { nodes = nodeCount n table; tableOffset = offset table }) (build n table room)
 

@@ -33,6 +33,7 @@ pub record Summary : Type 0 where
   pub nodes : ℕ
   pub tableOffset : ℤ
 
+-- Those of a table.
 abbrev pub summaryOf : ℕ → List ℤ → Summary
 summaryOf n table = record { nodes = nodeCount n table; tableOffset = offset table }
 

@@ -2,7 +2,7 @@
 use Prim.Native.Nat.{ℕ, _-_, _*_, _^_}
 use mathlib.Core.Path.{_≡_}
 use mathlib.Core.List.{List, flatMap}
-use lib.ListN.{length}
+use lib.ListN.{length, take}
 use lib.Dec.{leb, eqb}
 use lib.IntN.{ℤ}
 use Rattle.numbers.specs.Answers.{Answer, accepted, refused, unless, mapAnswer, bufferAfter}
@@ -31,18 +31,27 @@ build n table room = ofTable n table (unless (leb (nodeRoom n) room) 4 (accepted
 -- Node count and offset.
 pub record Summary : Type 0 where
   pub nodes : ℕ
-  pub offset : ℤ
+  pub tableOffset : ℤ
 
+-- Those of a table.
+abbrev pub summaryOf : ℕ → List ℤ → Summary
+summaryOf n table = record { nodes = nodeCount n table; tableOffset = offset table }
+
+-- What Build answers beside its buffer.
 unfoldable pub buildAnswer : ℕ → List ℤ → ℕ → Answer Summary
-buildAnswer n table room = mapAnswer (λ rs. record { nodes = nodeCount n table; offset = offset table }) (build n table room)
+buildAnswer n table room = mapAnswer (λ rs. summaryOf n table) (build n table room)
 
 -- What the lent node buffer holds after Build.
 unfoldable pub buildBuffer : ℕ → List ℤ → List ℤ → List ℤ
 buildBuffer n table buffer = bufferAfter (build n table (length buffer)) (flatMap recordNumbers) buffer
 
+-- The records' part of a node buffer, for so many nodes: the numbers of each node but the terminal.
+unfoldable pub recordPart : ℕ → List ℤ → List ℤ
+recordPart count buffer = take (recordSize * (count - 1)) buffer
+
 -- The paper's answer that a value of the enum stands for.
 unfoldable pub built : Built → Answer Summary
-built (Diagram nodes offset) = accepted (record { nodes = nodes; offset = offset })
+built (Diagram count start) = accepted (record { nodes = count; tableOffset = start })
 built (Refused number) = refused number
 
 -- Build's promise: its answer, and what its buffer then holds.

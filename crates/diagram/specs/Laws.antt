@@ -8,8 +8,10 @@ pub mod Checks
 pub mod Counting
 pub mod CutRecords
 pub mod Edges
+pub mod FirstBlocks
 pub mod Fits
 pub mod Forks
+pub mod NodeCount
 pub mod Nodes
 pub mod Numbering
 pub mod Paths

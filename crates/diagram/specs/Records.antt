@@ -21,12 +21,15 @@ unfoldable pub recordsBelow : ℕ → List ℤ → ℕ → ℕ
 recordsBelow n table zero = 0
 recordsBelow n table (suc i) = recordsBelow n table i + length (kinds n table i)
 
--- The node of a block of height i: node 0, the terminal, for a single value.
+-- Node of a block of height i (the paper's term): the record of a block that branches, else the node of its lower half. A single value is
+-- node 0, the terminal (the paper's term).
 unfoldable pub node : ℕ → List ℤ → ℕ → List ℤ → ℕ
 node n table zero values = 0
 node n table (suc i) values =
     elim (branches i values) [ true ↦ suc (recordsBelow n table i + numberIn (kinds n table i) (differences values)) | false ↦ node n table i (lowerHalf i values) ]
 
+-- Record (the paper's term), and its parts, which the paper names so too: the variable, low, the node of the lower half, high, the node of
+-- the upper half, and the weight.
 pub record Record : Type 0 where
   pub variable : ℕ
   pub low : ℕ
@@ -42,6 +45,7 @@ recordOf n table i values = record {
   weight = first (upperHalf i values) -ℤ first (lowerHalf i values);
 }
 
+-- The records of variable i, by first appearance.
 unfoldable pub recordsAt : ℕ → List ℤ → ℕ → List Record
 recordsAt n table i = map (recordOf n table i) (kinds n table i)
 
@@ -57,10 +61,10 @@ recordNumbers r = pos (r .variable) ∷ pos (r .low) ∷ pos (r .high) ∷ r .we
 unfoldable pub recordSize : ℕ
 recordSize = 4
 
--- The offset (the paper's term): f(0).
+-- Offset (the paper's term): f(0).
 unfoldable pub offset : List ℤ → ℤ
 offset table = first table
 
--- The node count: the records and the terminal.
+-- Node count (the paper's term): the records and the terminal.
 unfoldable pub nodeCount : ℕ → List ℤ → ℕ
 nodeCount n table = suc (length (records n table))

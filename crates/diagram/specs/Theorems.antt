@@ -1,18 +1,19 @@
 -- Demand 2: the records are the reduced diagram, walking them gives the table back, and equal records tell tables apart up to a constant.
-use Prim.Native.Nat.{ℕ, suc, _-_, _%_, _^_, _≤_, _<_}
-use mathlib.Core.Path.{_≡_, sym, _∙_, ap}
+use Prim.Native.Nat.{ℕ, suc, _-_, _*_, _%_, _^_, _≤_, _<_}
+use mathlib.Core.Path.{_≡_, sym, _∙_, ap, ap₂}
 use mathlib.Core.Logic.{_↔_}
 use mathlib.Core.Bool.{true}
-use mathlib.Core.List.{List, map}
+use mathlib.Core.List.{List, _++_, map, flatMap}
 use native.Mathlib.Omega.{arith}
-use lib.ListN.{length, getD}
+use lib.ListN.{length, getD, drop}
 use lib.IntN.{ℤ, pos, _+ℤ_, _-ℤ_}
-use Rattle.numbers.specs.Answers.{accepted}
+use Rattle.numbers.specs.Answers.{accepted, refused}
 use Rattle.blocks.specs.Blocks.{block, first, differences}
 use Rattle.diagram.specs.Accepted.{Accepted, written, nodeFunction}
-use Rattle.diagram.specs.Build.{nodeRoom}
-use Rattle.diagram.specs.Records.{node, records, offset}
+use Rattle.diagram.specs.Build.{nodeRoom, Summary, summaryOf, buildAnswer, buildBuffer, recordPart}
+use Rattle.diagram.specs.Records.{node, records, recordNumbers, recordSize, offset, nodeCount}
 use Rattle.diagram.specs.Walk.{variableAt, lowAt, highAt, weightAt, listFits, walk}
+use Rattle.diagram.specs.Laws.Builds.{build-answered, build-admits, build-summary, build-left, build-records, refused-kept}
 use Rattle.diagram.specs.Laws.Fits.{list-fits, written-room}
 use Rattle.diagram.specs.Laws.Nodes.{root-last}
 use Rattle.diagram.specs.Laws.Numbering.{records-count, records-room}
@@ -20,6 +21,28 @@ use Rattle.diagram.specs.Laws.RecordBlocks.{record-block}
 use Rattle.diagram.specs.Laws.Reduced.{block-differences, record-differences, not-redundant, one-function-one-node}
 use Rattle.diagram.specs.Laws.SameRecords.{same-records, records-shift}
 use Rattle.diagram.specs.Laws.Walks.{walk-records}
+
+-- ---- Build: what is accepted, and what its buffer then holds
+
+-- Build accepts exactly the accepted tables whose buffer has room for 2^n - 1 records.
+pub build-accepts : (n : ℕ) (table : List ℤ) (room : ℕ) → (Accepted n table × (nodeRoom n ≤ room)) ↔ ((s : Summary) × (buildAnswer n table room ≡ accepted s))
+build-accepts n table room = ((λ a. (summaryOf n table, build-answered n table room (a .0) (a .1))), (λ s. build-admits n table room (s .0) (s .1)))
+
+-- It then answers the node count and the offset of the table.
+pub build-answers : (n : ℕ) (table : List ℤ) (room : ℕ) (s : Summary) → buildAnswer n table room ≡ accepted s → s ≡ summaryOf n table
+build-answers = build-summary
+
+-- The records stand in front of its buffer, and nothing behind them is changed.
+pub build-leaves : (n : ℕ) (table buffer : List ℤ) (s : Summary) → buildAnswer n table (length buffer) ≡ accepted s → buildBuffer n table buffer ≡ written n table ++ drop (recordSize * (s .nodes - 1)) buffer
+build-leaves = build-left
+
+-- So the records' part holds the records.
+pub build-gives-records : (n : ℕ) (table buffer : List ℤ) (s : Summary) → buildAnswer n table (length buffer) ≡ accepted s → recordPart (s .nodes) (buildBuffer n table buffer) ≡ written n table
+build-gives-records = build-records
+
+-- A refused Build leaves its buffer unchanged.
+pub refused-build-leaves : (n : ℕ) (table buffer : List ℤ) (k : ℕ) → buildAnswer n table (length buffer) ≡ refused k → buildBuffer n table buffer ≡ buffer
+refused-build-leaves = refused-kept
 
 -- ---- walking gives the table back
 
@@ -31,14 +54,42 @@ records-pass n table a = list-fits n table (a .size) (a .values)
 pub walk-gives-table : (n : ℕ) (table : List ℤ) → Accepted n table → (x : ℕ) → x < 2 ^ n → walk n (offset table) (written n table) x ≡ accepted (getD table x (pos 0))
 walk-gives-table = walk-records
 
+-- Walking what Build left in any buffer, with the offset that it answered, gives f(X) too.
+pub walk-after-build : (n : ℕ) (table buffer : List ℤ) (s : Summary) → buildAnswer n table (length buffer) ≡ accepted s → (x : ℕ) → x < 2 ^ n → walk n (s .tableOffset) (recordPart (s .nodes) (buildBuffer n table buffer)) x ≡ accepted (getD table x (pos 0))
+walk-after-build n table buffer s e x h =
+    ap₂ (λ t list. walk n (t .tableOffset) list x) (build-summary n table (length buffer) s e) (build-records n table buffer s e)
+    ∙ walk-records n table (build-admits n table (length buffer) s e .0) x h
+
 -- ---- equal records
 
 -- Two accepted tables of one n have equal records exactly when they differ by one constant.
 pub equal-records : (n : ℕ) (f g : List ℤ) → Accepted n f → Accepted n g → (records n f ≡ records n g) ↔ ((c : ℤ) × (g ≡ map (λ v. v +ℤ c) f))
 equal-records n f g a b = (
-  (λ e. (first g -ℤ first f, same-records n f g (a .size) (b .size) e)),
+  (λ e. (first g -ℤ first f, same-records n f g (a .size) (b .size) (ap (flatMap recordNumbers) e))),
   (λ d. sym (ap (records n) (d .1) ∙ records-shift n (d .0) f)),
 )
+
+module _ (n : ℕ) (f g buffer buffer′ : List ℤ) (s t : Summary) (built-f : buildAnswer n f (length buffer) ≡ accepted s) (built-g : buildAnswer n g (length buffer′) ≡ accepted t) where
+  -- What Build left in the records' parts of two buffers is equal exactly when the tables differ by one constant.
+  pub equal-builds : (recordPart (s .nodes) (buildBuffer n f buffer) ≡ recordPart (t .nodes) (buildBuffer n g buffer′)) ↔ ((c : ℤ) × (g ≡ map (λ v. v +ℤ c) f))
+  equal-builds = (
+    (λ e. (
+      first g -ℤ first f,
+      same-records n f g (build-admits n f (length buffer) s built-f .0 .size) (build-admits n g (length buffer′) t built-g .0 .size)
+          (sym (build-records n f buffer s built-f) ∙ e ∙ build-records n g buffer′ t built-g),
+    )),
+    (λ d.
+        build-records n f buffer s built-f
+        ∙ sym (build-records n g buffer′ t built-g ∙ ap (written n) (d .1) ∙ ap (flatMap recordNumbers) (records-shift n (d .0) f))),
+  )
+
+  -- Then the node counts are equal.
+  pub equal-counts : (c : ℤ) → g ≡ map (λ v. v +ℤ c) f → s .nodes ≡ t .nodes
+  unfolding nodeCount
+  equal-counts c e =
+      ap (λ u. u .nodes) (build-summary n f (length buffer) s built-f)
+      ∙ ap (λ rs. suc (length rs)) (sym (ap (records n) e ∙ records-shift n c f))
+      ∙ sym (ap (λ u. u .nodes) (build-summary n g (length buffer′) t built-g))
 
 -- ---- the records are the reduced diagram
 

@@ -18,6 +18,7 @@ use Rattle.diagram.specs.declared.Walked.the-variants.{Value, Refused}
 unfoldable pub numberAt : List ℤ → ℕ → ℕ → ℤ
 numberAt list k c = getD list (recordSize * (k - 1) + c) (pos 0)
 
+-- The variable, low, high and weight of record k.
 unfoldable pub variableAt : List ℤ → ℕ → ℤ
 variableAt list k = numberAt list k 0
 
@@ -35,6 +36,7 @@ unfoldable pub childFits : List ℤ → ℕ → ℤ → Bool
 childFits list k child =
     within (pos 0) (pos (k - 1)) child && (eqZ child (pos 0) || ltZ (variableAt list (natAbs child)) (variableAt list k))
 
+-- What is asked of record k: its variable, its two children and its weight.
 unfoldable pub recordFits : ℕ → List ℤ → ℕ → Bool
 recordFits n list k =
     within (pos 0) (pos (n - 1)) (variableAt list k)
@@ -68,7 +70,7 @@ pathWeight list (suc i) (suc k) x =
       | false ↦ pathWeight list i (suc k) x
     ]
 
--- The value at X: the offset and the path from the root, which is the last record, or node 0 where there is none.
+-- The value at X: the offset and the path from the root (the paper's term), which is the last record, or node 0 where there is none.
 unfoldable pub walkValue : ℕ → ℤ → List ℤ → ℕ → ℤ
 walkValue n offset list x = offset +ℤ pathWeight list n (recordCount list) x
 

@@ -8,7 +8,7 @@ ghost use Rattle.numbers.specs.Lists.{every};
 ghost use Rattle.numbers.specs.Ranges.{isValue};
 ghost use Rattle.blocks.specs.Blocks.{block, first};
 ghost use Rattle.blocks.specs.Inner.Layout.{classAt};
-ghost use Rattle.diagram.specs.Inner.Building.{forkOf, Forking};
+ghost use Rattle.diagram.specs.Inner.Building.{forkOf, ClassOfCut, Forking};
 ghost use Rattle.diagram.specs.Records.{branches};
 use crate::Fork;
 
@@ -33,6 +33,15 @@ pub(crate) fn block_branches(table: &[i32], i: usize, j: usize) -> bool
     !blocks::same_halves(&table[start..end])
 }
 
+// Whether class c of cut h branches, seen at its first block.
+pub fn class_branches(n: usize, h: usize, c: usize, table: &[i32], firsts: &[usize]) -> bool
+    requires { ⌜ ClassOfCut n h c (now table) (now firsts) ⌝ }
+    ensures { λ r. ⌜ r ≡ branches (n - suc h) (classAt n (now (table .entry)) h c) ⌝ }
+{
+    let j = blocks::in_cut(firsts, h, c);
+    block_branches(table, n - (h + 1), j)
+}
+
 // The fork of class c of cut h, read at the class's first block.
 pub(crate) fn fork_at(
     n: usize,
@@ -54,6 +63,6 @@ pub(crate) fn fork_at(
         low: blocks::in_cut(row, h + 1, low),
         high: blocks::in_cut(row, h + 1, high),
         weight,
-        branching: block_branches(table, n - (h + 1), j),
+        branching: class_branches(n, h, c, table, firsts),
     }
 }

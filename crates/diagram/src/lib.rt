@@ -1,12 +1,11 @@
 // The reduced edge-valued decision diagram of a table: Build and Walk.
 mod building;
-mod forks;
+pub mod forks;
 mod lists;
 pub mod tables;
 mod walking;
 
 ghost use mathlib.Core.Path.{_≡_};
-ghost use Prim.Native.Nat.{_<_};
 ghost use Rattle.diagram.specs.Build.{Builds};
 ghost use Rattle.diagram.specs.Walk.{walk, walked};
 
@@ -44,12 +43,10 @@ pub fn walk(n: usize, offset: i32, records: &[i32], x: usize) -> Walked
     if !numbers::is_within(-8388608, 8388607, offset) {
         return Walked::Refused(5);
     }
-    let fits = lists::list_fits(n, records);
-    let inside = x < numbers::power(n);
-    if !fits {
+    if !lists::list_fits(n, records) {
         return Walked::Refused(6);
     }
-    if !inside {
+    if x >= numbers::power(n) {
         return Walked::Refused(7);
     }
     Walked::Value(walking::walk_value(n, offset, records, x))

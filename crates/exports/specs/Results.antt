@@ -24,7 +24,7 @@ pub record BuildGiven (n : ℕ) (table nodes : List ℤ) (count : ℕ) (offset :
   pub answered : result ≡ resultOf (buildAnswer n table (length nodes))
   pub recorded : nodes′ ≡ buildBuffer n table nodes
   pub counted : count′ ≡ leftBehind (buildAnswer n table (length nodes)) (λ s. s .nodes) count
-  pub valued : offset′ ≡ leftBehind (buildAnswer n table (length nodes)) (λ s. s .offset) offset
+  pub valued : offset′ ≡ leftBehind (buildAnswer n table (length nodes)) (λ s. s .tableOffset) offset
 
 -- What Walk answers and leaves behind its reference.
 pub record WalkGiven (n : ℕ) (offset : ℤ) (records : List ℤ) (x : ℕ) (value : ℤ) (result : ℕ) (value′ : ℤ) : Type 0 where

@@ -3,11 +3,10 @@ use Prim.Native.Nat.{_^_}
 use mathlib.Core.Path.{_≡_, sym, _∙_, ap}
 use mathlib.Core.Bool.{true}
 use native.Mathlib.Omega.{arith}
-use lib.Dec.{ltb}
 use lib.IntN.{pos, negℤ}
 use mir.Facts.{toZ-ofZ}
 use borrow.Author.Needs.{needs, sfits-of}
-use borrow.Author.Tests.{not-true, not-false}
+use borrow.Author.Tests.{not-true, not-false, lt-ltb, le-ltb}
 use Rattle.numbers.specs.Answers.{accepted}
 use Rattle.numbers.specs.Ranges.{isVariables, isValue, within}
 use Rattle.diagram.specs.Walk.{listFits, walkValue, walk, walked}
@@ -43,25 +42,19 @@ start c = in-range (c .before) ∙ not-false _ (c .if2 .left)
 list-fits-requires : tie.Need-list-fits-requires
 list-fits-requires c κs = variables (c .before .before)
 
-power-requires : tie.Need-power-requires
-power-requires c κs = let v = variables-range _ (variables (c .before .before .before)) .1 in omega arith
-
--- What is known once the records and X are looked at: the checks passed, and what the others say.
-module _ (c : tie.After-power) where
+-- The records are looked at.
+module _ (c : tie.After-list-fits) where
   abbrev begun : tie.Start
-  begun = c .before .before .before .before .before .before
+  begun = c .before .before .before .before .before
 
   accepted-variables : isVariables (begun .args .n) ≡ true
-  accepted-variables = variables (c .before .before .before .before)
+  accepted-variables = variables (c .before .before .before)
 
   accepted-start : isValue (begun .args .offset) ≡ true
-  accepted-start = start (c .before .before)
+  accepted-start = start (c .before)
 
-  fits : listFits (begun .args .n) (begun .args .records .now) ≡ c .before .list-fits .result
-  fits = sym (c .before .list-fits .ensures)
-
-  inside : ltb (begun .args .x) (2 ^ begun .args .n) ≡ ltb (begun .args .x) (c .power .result)
-  inside = ap (ltb (begun .args .x)) (sym (c .power .ensures))
+  fits : listFits (begun .args .n) (begun .args .records .now) ≡ c .list-fits .result
+  fits = sym (c .list-fits .ensures)
 
 returns-3 : tie.Need-returns-3
 unfolding walk walked
@@ -70,22 +63,29 @@ returns-3 c = let d = c .before in rw (accepted-variables d, accepted-start d, f
 records : (c : tie.Else3) → listFits (begun (c .before) .args .n) (begun (c .before) .args .records .now) ≡ true
 records c = fits (c .before) ∙ not-false _ (c .if3 .left)
 
+power-requires : tie.Need-power-requires
+power-requires c κs = let v = variables-range _ (accepted-variables (c .before)) .1 in omega arith
+
 returns-4 : tie.Need-returns-4
 unfolding walk walked
-returns-4 c = let d = c .before .before in rw (accepted-variables d, accepted-start d, records (c .before), inside d ∙ not-true _ (c .if4 .taken))
+returns-4 c =
+    let e = c .before .before in
+    let d = e .before in
+    rw (accepted-variables d, accepted-start d, records e, le-ltb (begun d .args .x) (2 ^ begun d .args .n) (rw (c .before .power .ensures) at (c .if4 .taken)))
 
 walk-value-requires : tie.Need-walk-value-requires
 walk-value-requires c κs =
-    let d = c .before .before in
-    rw (toZ-ofZ (begun d .fits .offset)) (record { variables = accepted-variables d; start = accepted-start d; records = records (c .before) })
+    let d = c .before .before .before in
+    rw (toZ-ofZ (begun d .fits .offset)) (record { variables = accepted-variables d; start = accepted-start d; records = records (c .before .before) })
 
 returns-5 : tie.Need-returns-5
 unfolding walk walked
 returns-5 c =
-    let e = c .before in
-    let d = e .before .before in
+    let f = c .before in
+    let e = f .before .before in
+    let d = e .before in
     let s = begun d in
-    rw (accepted-variables d, accepted-start d, records (e .before), inside d ∙ not-false _ (e .if4 .left))
+    rw (accepted-variables d, accepted-start d, records e, lt-ltb (s .args .x) (2 ^ s .args .n) (rw (f .before .power .ensures) at (f .if4 .left)))
     (ap accepted (toZ-ofZ (sfits-of (c .walk-value .ok)) ∙ c .walk-value .ensures ∙ ap (λ z. walkValue (s .args .n) z (s .args .records .now) (s .args .x)) (toZ-ofZ (s .fits .offset))))
 
 pub walk-spec : {M : Type 1} → statement M
@@ -97,8 +97,8 @@ walk-spec =
     is-within-requires
     returns-2
     list-fits-requires
-    power-requires
     returns-3
+    power-requires
     returns-4
     walk-value-requires
     returns-5)

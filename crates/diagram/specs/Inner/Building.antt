@@ -28,13 +28,17 @@ pub record NodesKnown (n : ℕ) (table : List ℤ) (h : ℕ) (row : List ℕ) : 
   pub places : cutPlace (suc n) ≤ length row
   pub known : (c : ℕ) → c < classCount n table h → getD row (cutPlace h + c) 0 ≡ node n table (n - h) (classAt n table h c)
 
--- Where the fork of class c of cut h can be read: the rows of classes, and the nodes of the next cut.
-pub record Forking (n h c : ℕ) (table : List ℤ) (classRow firstRow row : List ℕ) : Type 0 where
-  pub accepted : Accepted n table
+-- Class c of cut h, which lies above a variable, of an accepted table; the row has the first block of each class of all cuts.
+pub record ClassOfCut (n h c : ℕ) (table : List ℤ) (firstRow : List ℕ) : Type 0 where
+  pub admitted : Accepted n table
   pub cut : h < n
-  pub class : c < classCount n table h
-  pub numbered : classRow ≡ allNumbers n table
+  pub known : c < classCount n table h
   pub placed : firstRow ≡ allFirsts n table
+
+-- Where its fork can be read: the row of all blocks' classes, and the nodes of the next cut.
+pub record Forking (n h c : ℕ) (table : List ℤ) (classRow firstRow row : List ℕ) : Type 0 where
+  pub class : ClassOfCut n h c table firstRow
+  pub numbered : classRow ≡ allNumbers n table
   pub below : NodesKnown n table (suc h) row
 
 -- Room for one record more, where class c of cut h branches.
@@ -50,9 +54,9 @@ pub record ClassPlaced (n h c made : ℕ) (table : List ℤ) (row : List ℕ) (n
 
 -- What the classes of cut h start from: the rows of classes, the nodes of the next cut, and the records of the variables below.
 pub record CutReady (n h count made : ℕ) (table : List ℤ) (classRow firstRow row : List ℕ) (nodes : List ℤ) : Type 0 where
-  pub accepted : Accepted n table
+  pub admitted : Accepted n table
   pub cut : h < n
-  pub classes : count ≡ classCount n table h
+  pub classCounted : count ≡ classCount n table h
   pub numbered : classRow ≡ allNumbers n table
   pub placed : firstRow ≡ allFirsts n table
   pub below : NodesKnown n table (suc h) row
@@ -67,7 +71,7 @@ pub record CutRecorded (n h made : ℕ) (table : List ℤ) (row : List ℕ) (nod
 
 -- An accepted table, rows for the classes of all its cuts, and a buffer with room for its records.
 pub record TableRoom (n : ℕ) (table : List ℤ) (classRow firstRow countRow : List ℕ) (nodes : List ℤ) : Type 0 where
-  pub accepted : Accepted n table
+  pub admitted : Accepted n table
   pub classPlaces : length classRow ≡ cutPlace (suc n)
   pub firstPlaces : length firstRow ≡ cutPlace (suc n)
   pub countPlaces : length countRow ≡ suc n
@@ -75,7 +79,7 @@ pub record TableRoom (n : ℕ) (table : List ℤ) (classRow firstRow countRow : 
 
 -- The same with the classes in the rows.
 pub record BuildReady (n : ℕ) (table : List ℤ) (classRow firstRow countRow : List ℕ) (nodes : List ℤ) : Type 0 where
-  pub accepted : Accepted n table
+  pub admitted : Accepted n table
   pub numbered : classRow ≡ allNumbers n table
   pub placed : firstRow ≡ allFirsts n table
   pub counts : countRow ≡ allCounts n table

@@ -20,8 +20,8 @@ use Rattle.diagram.specs.Build.{nodeRoom}
 use Rattle.diagram.specs.Records.{recordsBelow, node, recordsAt, records, recordNumbers, recordSize}
 use Rattle.diagram.specs.Inner.Building.{NodesKnown, CutReady, CutRecorded, BuildReady, AllRecorded}
 use Rattle.diagram.specs.Laws.Checks.{variables-range}
-use Rattle.diagram.specs.Laws.CutRecords.{cut-known, numbers-length}
-use Rattle.diagram.specs.Laws.Numbering.{records-before, records-count, records-room, below-more}
+use Rattle.diagram.specs.Laws.CutRecords.{cut-known}
+use Rattle.diagram.specs.Laws.Numbering.{numbers-length, records-before, records-count, records-room, below-more}
 use Rattle.blocks.specs.Laws.Places.{place-inside, length-counts, count-at}
 
 -- The numbers of the records of the variables below i.
@@ -52,7 +52,7 @@ module _ {n : ℕ} {table : List ℤ} {classRow firstRow countRow : List ℕ} {n
   -- A row of 8191 places has room for the cuts of 12 variables.
   row-room : (row : List ℕ) → length row ≡ 8191 → cutPlace (suc n) ≤ length row
   unfolding cutPlace
-  row-room row long = let p = pow-mono {i = suc n} {j = 13} (let v = variables-range n (b .accepted .variables) .1 in omega arith) in omega arith
+  row-room row long = let p = pow-mono {i = suc n} {j = 13} (let v = variables-range n (b .admitted .variables) .1 in omega arith) in omega arith
 
   -- The single values of cut n have node 0.
   no-nodes : (values : List ℤ) → node n table (n - n) values ≡ 0
@@ -104,9 +104,9 @@ module _ {n : ℕ} {table : List ℤ} {classRow firstRow countRow : List ℕ} {n
 
       pub cut-ready : CutReady n (n - 1 - i) (getD countRow (n - 1 - i) 0) made table classRow firstRow row nodes
       cut-ready = record {
-        accepted = b .accepted;
+        admitted = b .admitted;
         cut = omega arith;
-        classes = rw (b .counts) (count-at n table (n - 1 - i) (omega arith));
+        classCounted = rw (b .counts) (count-at n table (n - 1 - i) (omega arith));
         numbered = b .numbered;
         placed = b .placed;
         below = rw up (s .below);

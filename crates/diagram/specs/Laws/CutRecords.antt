@@ -1,6 +1,6 @@
 -- The classes of a cut placed one by one: what the row of nodes and the buffer hold on the way, and at the end.
 use Prim.Native.Nat.{ℕ, suc, _+_, _-_, _*_, _^_, _≤_, _<_}
-use mathlib.Core.Path.{_≡_, refl, sym, _∙_, ap, ap₂}
+use mathlib.Core.Path.{_≡_, sym, _∙_, ap, ap₂}
 use mathlib.Core.Bool.{true, false, cond}
 use mathlib.Core.List.{List, [], _∷_, _++_, map, flatMap, map-append, append-nil}
 use native.Mathlib.Nat.{mul-add, add-zero}
@@ -16,7 +16,7 @@ use Rattle.numbers.specs.Laws.Bools.{yes-or-no}
 use Rattle.numbers.specs.Laws.Lists.{getD-map}
 use Rattle.numbers.specs.Laws.Overwriting.{length-overwritten}
 use Rattle.numbers.specs.Laws.Rows.{keep-next, keep-same, overwritten-none, overwritten-more, store-behind, new-entry, later-entry}
-use Rattle.numbers.specs.Laws.Selections.{keep-append, flatMap-append, length-flatMap}
+use Rattle.numbers.specs.Laws.Selections.{keep-append, flatMap-append}
 use Rattle.blocks.specs.Blocks.{block, lowerHalf, differences}
 use Rattle.blocks.specs.Classes.{numberIn, classes, classCount}
 use Rattle.blocks.specs.Inner.Layout.{cutPlace, classAt}
@@ -24,12 +24,12 @@ use Rattle.blocks.specs.Laws.Classes.{class-count-le}
 use Rattle.blocks.specs.Laws.Cuts.{cut-end, cut-within}
 use Rattle.blocks.specs.Laws.Differences.{differences-again}
 use Rattle.diagram.specs.Build.{nodeRoom}
-use Rattle.diagram.specs.Records.{branches, kinds, recordsBelow, node, Record, recordOf, recordsAt, recordNumbers, recordSize}
+use Rattle.diagram.specs.Records.{branches, kinds, recordsBelow, node, recordOf, recordsAt, recordNumbers, recordSize}
 use Rattle.diagram.specs.Inner.Building.{NodesKnown, Forking, RecordRoom, ClassPlaced, CutReady, CutRecorded}
 use Rattle.diagram.specs.Laws.BranchingClasses.{kinds-are, kind-below, kind-number}
 use Rattle.diagram.specs.Laws.Checks.{variables-range}
 use Rattle.diagram.specs.Laws.Nodes.{node-branching, node-passing}
-use Rattle.diagram.specs.Laws.Numbering.{records-count, records-room, below-more, kind-within}
+use Rattle.diagram.specs.Laws.Numbering.{numbers-length, records-count, records-room, below-more, kind-within}
 use Rattle.blocks.specs.Laws.Places.{first-block}
 
 -- ---- on the way
@@ -53,11 +53,6 @@ class-own : (n : ℕ) (table : List ℤ) (h c : ℕ) → h ≤ n → c < classCo
 class-own n table h c cut l =
     let e = first-block n table h cut c l .1 in
     ap differences (sym e) ∙ differences-again (block table (n - h) _) ∙ e
-
--- A record has four numbers.
-pub numbers-length : (rs : List Record) → length (flatMap recordNumbers rs) ≡ recordSize * length rs
-unfolding recordNumbers recordSize
-numbers-length rs = length-flatMap recordNumbers recordSize (λ r. refl) rs
 
 module _ {n h count before : ℕ} {table : List ℤ} {classRow firstRow row₀ : List ℕ} {nodes₀ : List ℤ} (r : CutReady n h count before table classRow firstRow row₀ nodes₀) where
   abbrev half : ℕ
@@ -143,7 +138,7 @@ module _ {n h count before : ℕ} {table : List ℤ} {classRow firstRow row₀ :
     -- The next class can be read, and there is room for its record.
     module _ (below : c < classCount n table h) where
       pub cut-forking : Forking n h c table classRow firstRow row
-      cut-forking = record { accepted = r .accepted; cut = r .cut; class = below; numbered = r .numbered; placed = r .placed; below = next-known }
+      cut-forking = record { class = record { admitted = r .admitted; cut = r .cut; known = below; placed = r .placed }; numbered = r .numbered; below = next-known }
 
       abbrev here : List ℤ
       here = classAt n table h c
@@ -173,7 +168,7 @@ module _ {n h count before : ℕ} {table : List ℤ} {classRow firstRow row₀ :
         few =
             (let f = few-records c in
             let a = s .counted in
-            let p = pow-mono {i = n} {j = 12} (variables-range n (r .accepted .variables) .1) in
+            let p = pow-mono {i = n} {j = 12} (variables-range n (r .admitted .variables) .1) in
             omega arith);
         room = room-for;
       }
@@ -277,7 +272,7 @@ module _ {n h count before : ℕ} {table : List ℤ} {classRow firstRow row₀ :
 -- The nodes of the cut are then known.
 pub cut-known : {n h made : ℕ} {table : List ℤ} {row : List ℕ} {nodes : List ℤ} {made′ : ℕ} {row′ : List ℕ} {nodes′ : List ℤ} → h ≤ n → cutPlace (suc n) ≤ length row → CutRecorded n h made table row nodes made′ row′ nodes′ → NodesKnown n table h row′
 unfolding classAt classCount
-cut-known {n} {h} {made} {table} {row} {nodes} {made′} {row′} {nodes′} within places d = record {
+cut-known {n} {h} {made} {table} {row} {nodes} {made′} {row′} {nodes′} cut places d = record {
   places = rw (ap length (d .noted) ∙ length-overwritten row (cutPlace h) new inside) places;
   known = λ c l. ap (λ x. getD x (cutPlace h + c) 0) (d .noted) ∙ new-entry row (cutPlace h) new inside c 0 (rw length-map l) ∙ getD-map (node n table (n - h)) (classes n table h) c [] 0 l;
 }
@@ -286,4 +281,4 @@ cut-known {n} {h} {made} {table} {row} {nodes} {made′} {row′} {nodes′} wit
     new = map (node n table (n - h)) (classes n table h)
 
     inside : cutPlace h + length new ≤ length row
-    inside = rw length-map (let m = class-count-le n table h within in let w = cut-within n h within in omega arith)
+    inside = rw length-map (let m = class-count-le n table h cut in let w = cut-within n h cut in omega arith)

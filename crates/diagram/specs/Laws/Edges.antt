@@ -68,10 +68,10 @@ path-edge list i (suc k) x =
 -- What holds of every edge that a node may have holds of the one taken.
 edge-any : (P : Edge → Type 0) (list : List ℤ) (i k x : ℕ) → (k ≡ 0 → P (record { weight = pos 0; node = 0 })) → (1 ≤ k → P (record { weight = pos 0; node = k })) → (1 ≤ k → P (record { weight = weightAt list k; node = natAbs (highAt list k) })) → (1 ≤ k → P (record { weight = pos 0; node = natAbs (lowAt list k) })) → P (edgeAt list i k x)
 unfolding edgeAt
-edge-any P list i zero x none later high low = none refl
-edge-any P list i (suc k) x none later high low =
+edge-any P list i zero x none later upper lower = none refl
+edge-any P list i (suc k) x none later upper lower =
     yes-or-no (eqZ (variableAt list (suc k)) (pos i))
-    (λ v. yes-or-no (bitSet x i) (λ b. rw (v, b, edgeAt) (high (omega arith))) (λ b. rw (v, b, edgeAt) (low (omega arith))))
+    (λ v. yes-or-no (bitSet x i) (λ b. rw (v, b, edgeAt) (upper (omega arith))) (λ b. rw (v, b, edgeAt) (lower (omega arith))))
     (λ v. rw (v, edgeAt) (later (omega arith)))
 
 module _ (list : List ℤ) (i k x : ℕ) (w : Walkable list k) where

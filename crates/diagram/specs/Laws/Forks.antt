@@ -17,21 +17,21 @@ use Rattle.numbers.specs.Ranges.{isValue}
 use Rattle.numbers.specs.Laws.Bounds.{difference-weight}
 use Rattle.numbers.specs.Laws.Lists.{every-at}
 use Rattle.numbers.specs.Laws.Powers.{part-room, power-split}
-use Rattle.blocks.specs.Blocks.{block, first, lowerHalf, upperHalf, differences}
+use Rattle.blocks.specs.Blocks.{block, first, lowerHalf, upperHalf}
 use Rattle.blocks.specs.Classes.{classes, classCount, classOf}
 use Rattle.blocks.specs.Inner.Layout.{cutPlace, classAt}
-use Rattle.blocks.specs.Laws.Blocks.{block-at, block-within}
+use Rattle.blocks.specs.Laws.Blocks.{block-at}
 use Rattle.blocks.specs.Laws.Classes.{class-below, class-stands, class-count-le}
-use Rattle.blocks.specs.Laws.Differences.{differences-again}
 use Rattle.diagram.specs.Records.{branches, node, recordOf}
-use Rattle.diagram.specs.Inner.Building.{forkOf, Forking}
+use Rattle.diagram.specs.Inner.Building.{forkOf, ClassOfCut, Forking}
 use Rattle.diagram.specs.declared.Fork.{Fork}
 use Rattle.diagram.specs.Laws.Alike.{BlockLike, lower-of-block, upper-of-block, whole-length, like-lower, like-upper}
 use Rattle.diagram.specs.Laws.Checks.{variables-range, weight-mag}
+use Rattle.diagram.specs.Laws.FirstBlocks.{cut-small, firstOf, first-below, first-stands, first-alike}
 use Rattle.diagram.specs.Laws.Nodes.{node-differences, same-node, node-below}
 use Rattle.diagram.specs.Laws.Numbering.{weight-of-differences, records-count, records-room, below-more}
-use Rattle.blocks.specs.Laws.Places.{place-inside, length-numbers, length-firsts, class-at, first-block}
-use Rattle.diagram.specs.Laws.Shifts.{same-branches, same-lower, same-upper}
+use Rattle.blocks.specs.Laws.Places.{place-inside, length-numbers, class-at}
+use Rattle.diagram.specs.Laws.Shifts.{same-lower, same-upper}
 
 -- ---- the weight of a block
 
@@ -64,35 +64,24 @@ fork-record n table i values f e h =
     ∙ ap (λ w. record { variable = i; low = node n table i (lowerHalf i values); high = node n table i (upperHalf i values); weight = w }) (toZ-ofZ h)
 
 module _ {n h c : ℕ} {table : List ℤ} {classRow firstRow row : List ℕ} (f : Forking n h c table classRow firstRow row) where
-  open Forking f using (accepted, cut, class, numbered, placed, below)
+  open Forking f using (class, numbered, below)
+  open ClassOfCut class using (admitted, cut, known)
 
   abbrev half : ℕ
   half = n - suc h
 
-  whole : n - h ≡ suc half
-  whole = omega arith
-
   within-n : h ≤ n
   within-n = let l = cut in omega arith
 
-  cut-small : h < 12
-  cut-small = let v = variables-range n (accepted .variables) .1 in let l = cut in omega arith
-
   pub cut-fits : (h < 64) × (h + 1 < 64)
-  cut-fits = let s = cut-small in (omega arith, omega arith)
+  cut-fits = let s = cut-small class in (omega arith, omega arith)
 
   -- The class's first block.
-  pub first-inside : cutPlace h + c < length firstRow
-  first-inside = rw (placed, length-firsts n table) (place-inside n h c within-n (let m = class-count-le n table h within-n in let l = class in omega arith))
+  abbrev firstNumber : ℕ
+  firstNumber = firstOf class
 
-  abbrev pub j : ℕ
-  j = getD firstRow (cutPlace h + c) 0
-
-  place : (j < 2 ^ h) × (differences (block table (suc half) j) ≡ classAt n table h c)
-  place = rw (placed, ← whole) (first-block n table h within-n c class)
-
-  pub first-small : j * 2 + 1 < 2 ^ 64
-  first-small = let p = place .0 in let s = cut-small in let m = pow-mono {i = h} {j = 12} (omega arith) in omega arith
+  pub first-small : firstNumber * 2 + 1 < 2 ^ 64
+  first-small = let p = first-below class in let s = cut-small class in let m = pow-mono {i = h} {j = 12} (omega arith) in omega arith
 
   -- Block b of the next cut: its class, and the node that the row has for it.
   module _ (b : ℕ) (inside : b < 2 ^ suc h) where
@@ -123,95 +112,82 @@ module _ {n h c : ℕ} {table : List ℤ} {classRow firstRow row : List ℕ} (f 
         ∙ ap (node n table half) (class-stands n table (suc h) cut b inside)
         ∙ node-differences n table half (block table half b)
 
-  low-inside : j * 2 < 2 ^ suc h
-  low-inside = let p = place .0 in omega (arith, two-pow-succ h)
+  low-inside : firstNumber * 2 < 2 ^ suc h
+  low-inside = let p = first-below class in omega (arith, two-pow-succ h)
 
-  high-inside : j * 2 + 1 < 2 ^ suc h
-  high-inside = let p = place .0 in omega (arith, two-pow-succ h)
+  high-inside : firstNumber * 2 + 1 < 2 ^ suc h
+  high-inside = let p = first-below class in omega (arith, two-pow-succ h)
 
   -- The places that are read.
-  pub low-class-place : cutPlace (h + 1) + j * 2 < length classRow
-  low-class-place = class-place (j * 2) low-inside
+  pub low-class-place : cutPlace (h + 1) + firstNumber * 2 < length classRow
+  low-class-place = class-place (firstNumber * 2) low-inside
 
-  pub high-class-place : cutPlace (h + 1) + (j * 2 + 1) < length classRow
-  high-class-place = class-place (j * 2 + 1) high-inside
+  pub high-class-place : cutPlace (h + 1) + (firstNumber * 2 + 1) < length classRow
+  high-class-place = class-place (firstNumber * 2 + 1) high-inside
 
   abbrev pub low-class : ℕ
-  low-class = getD classRow (cutPlace (h + 1) + j * 2) 0
+  low-class = getD classRow (cutPlace (h + 1) + firstNumber * 2) 0
 
   abbrev pub high-class : ℕ
-  high-class = getD classRow (cutPlace (h + 1) + (j * 2 + 1)) 0
+  high-class = getD classRow (cutPlace (h + 1) + (firstNumber * 2 + 1)) 0
 
   pub low-node-place : cutPlace (h + 1) + low-class < length row
-  low-node-place = node-place (j * 2) low-inside
+  low-node-place = node-place (firstNumber * 2) low-inside
 
   pub high-node-place : cutPlace (h + 1) + high-class < length row
-  high-node-place = node-place (j * 2 + 1) high-inside
+  high-node-place = node-place (firstNumber * 2 + 1) high-inside
 
   pub half-fits : n - (h + 1) < 64
-  half-fits = let v = variables-range n (accepted .variables) .1 in omega arith
+  half-fits = let v = variables-range n (admitted .variables) .1 in omega arith
 
-  pub weight-place : (j * 2 + 1) * 2 ^ half < length table
+  pub weight-place : (firstNumber * 2 + 1) * 2 ^ half < length table
   weight-place =
-      let r = part-room (2 ^ (n - half)) half (j * 2 + 1) (rw (let e : n - half ≡ suc h = (let l = cut in omega arith) in e) high-inside) in
+      let r = part-room (2 ^ (n - half)) half (firstNumber * 2 + 1) (rw (let e : n - half ≡ suc h = (let l = cut in omega arith) in e) high-inside) in
       let p = pow-pos half in
-      let s = accepted .size in
+      let s = admitted .size in
       omega (arith, power-split n half (omega arith))
 
   -- The first block's halves are those of the class.
   abbrev whole-block : List ℤ
-  whole-block = block table (suc half) j
+  whole-block = block table (suc half) firstNumber
 
   abbrev lower-block : List ℤ
-  lower-block = block table half (j * 2)
+  lower-block = block table half (firstNumber * 2)
 
   abbrev upper-block : List ℤ
-  upper-block = block table half (j * 2 + 1)
+  upper-block = block table half (firstNumber * 2 + 1)
 
-  place-of-height : j < 2 ^ (n - suc half)
-  place-of-height = rw (let e : n - suc half ≡ h = (let l = cut in omega arith) in e) (place .0)
+  place-of-height : firstNumber < 2 ^ (n - suc half)
+  place-of-height = rw (let e : n - suc half ≡ h = (let l = cut in omega arith) in e) (first-below class)
 
   height-inside : suc half ≤ n
   height-inside = let l = cut in omega arith
 
   is-lower : lowerHalf half whole-block ≡ lower-block
-  is-lower = lower-of-block table half j
+  is-lower = lower-of-block table half firstNumber
 
   is-upper : upperHalf half whole-block ≡ upper-block
-  is-upper = upper-of-block n table (accepted .size) half j height-inside place-of-height
-
-  alike : differences whole-block ≡ differences (classAt n table h c)
-  alike = sym (ap differences (sym (place .1)) ∙ differences-again whole-block)
+  is-upper = upper-of-block n table (admitted .size) half firstNumber height-inside place-of-height
 
   low-is : getD row (cutPlace (h + 1) + low-class) 0 ≡ node n table half (lowerHalf half (classAt n table h c))
-  low-is = is-node (j * 2) low-inside ∙ ap (node n table half) (sym is-lower) ∙ same-node n table half (lowerHalf half whole-block) (lowerHalf half (classAt n table h c)) (same-lower half whole-block (classAt n table h c) alike)
+  low-is = is-node (firstNumber * 2) low-inside ∙ ap (node n table half) (sym is-lower) ∙ same-node n table half (lowerHalf half whole-block) (lowerHalf half (classAt n table h c)) (same-lower half whole-block (classAt n table h c) (first-alike class))
 
   high-is : getD row (cutPlace (h + 1) + high-class) 0 ≡ node n table half (upperHalf half (classAt n table h c))
-  high-is = is-node (j * 2 + 1) high-inside ∙ ap (node n table half) (sym is-upper) ∙ same-node n table half (upperHalf half whole-block) (upperHalf half (classAt n table h c)) (same-upper half whole-block (classAt n table h c) alike)
+  high-is = is-node (firstNumber * 2 + 1) high-inside ∙ ap (node n table half) (sym is-upper) ∙ same-node n table half (upperHalf half whole-block) (upperHalf half (classAt n table h c)) (same-upper half whole-block (classAt n table h c) (first-alike class))
 
   weight-is : first upper-block -ℤ first lower-block ≡ first (upperHalf half (classAt n table h c)) -ℤ first (lowerHalf half (classAt n table h c))
   weight-is =
       ap₂ (λ u l. first u -ℤ first l) (sym is-upper) (sym is-lower)
-      ∙ sym (weight-of-differences half whole-block (rw (whole-length n table (accepted .size) (suc half) j height-inside place-of-height) (omega (arith, two-pow-succ half, pow-pos half))))
-      ∙ ap (λ d. first (upperHalf half d) -ℤ first (lowerHalf half d)) (place .1)
-
-  branching-is : branches half whole-block ≡ branches half (classAt n table h c)
-  branching-is = same-branches half whole-block (classAt n table h c) alike
-
-  pub half-small : half < 63
-  half-small = let v = variables-range n (accepted .variables) .1 in omega arith
-
-  -- The first block lies within the table.
-  pub whole-place : j * 2 ^ suc half + 2 ^ suc half ≤ length table
-  whole-place = rw (accepted .size, sym whole) (block-within n h j within-n (place .0))
+      ∙ sym (weight-of-differences half whole-block (rw (whole-length n table (admitted .size) (suc half) firstNumber height-inside place-of-height) (omega (arith, two-pow-succ half, pow-pos half))))
+      ∙ ap (λ d. first (upperHalf half d) -ℤ first (lowerHalf half d)) (first-stands class)
 
   -- What is read is the fork of the class.
   abbrev pub forkRead : Fork
-  forkRead = record { low = getD row (cutPlace (h + 1) + low-class) 0; high = getD row (cutPlace (h + 1) + high-class) 0; weight = first upper-block -ℤ first lower-block; branching = branches half whole-block }
+  forkRead = record { low = getD row (cutPlace (h + 1) + low-class) 0; high = getD row (cutPlace (h + 1) + high-class) 0; weight = first upper-block -ℤ first lower-block; branching = branches half (classAt n table h c) }
 
   pub fork-is : forkRead ≡ forkOf n table half (classAt n table h c)
   unfolding forkOf
-  fork-is t = record { low = low-is t; high = high-is t; weight = weight-is t; branching = branching-is t }
+  fork-is t = record { low = low-is t; high = high-is t; weight = weight-is t; branching = branches half (classAt n table h c) }
 
   -- ---- what is written of it
 
@@ -219,32 +195,32 @@ module _ {n h c : ℕ} {table : List ℤ} {classRow firstRow row : List ℕ} (f 
   pub class-row-place : cutPlace h + c < length row
   class-row-place =
       let m = class-count-le n table h within-n in
-      let l = class in
+      let l = known in
       let p = place-inside n h c within-n (omega arith) in
       let r = below .places in
       omega arith
 
   class-like : BlockLike n table (suc half) (classAt n table h c)
-  class-like = record { place = j; inside = place-of-height; alike = sym alike }
+  class-like = record { place = firstNumber; inside = place-of-height; alike = sym (first-alike class) }
 
   node-small : (values : List ℤ) → BlockLike n table half values → node n table half values < 4096
   node-small values b =
-      let l = node-below n table (accepted .size) half values (omega arith) b in
+      let l = node-below n table (admitted .size) half values (omega arith) b in
       let m = below-more n table half n (omega arith) in
       let r = records-room n table in
       let e = records-count n table in
-      let p = pow-mono {i = n} {j = 12} (variables-range n (accepted .variables) .1) in
+      let p = pow-mono {i = n} {j = 12} (variables-range n (admitted .variables) .1) in
       omega arith
 
   -- Its numbers fit.
   pub fork-small : (half < 4096) × ((node n table half (lowerHalf half (classAt n table h c)) < 4096) × (node n table half (upperHalf half (classAt n table h c)) < 4096))
   fork-small = (
-    let v = variables-range n (accepted .variables) .1 in omega arith,
+    let v = variables-range n (admitted .variables) .1 in omega arith,
     (
-      node-small (lowerHalf half (classAt n table h c)) (like-lower n table (accepted .size) half (classAt n table h c) height-inside class-like),
-      node-small (upperHalf half (classAt n table h c)) (like-upper n table (accepted .size) half (classAt n table h c) height-inside class-like),
+      node-small (lowerHalf half (classAt n table h c)) (like-lower n table (admitted .size) half (classAt n table h c) height-inside class-like),
+      node-small (upperHalf half (classAt n table h c)) (like-upper n table (admitted .size) half (classAt n table h c) height-inside class-like),
     ),
   )
 
   pub fork-weight-fits : SFits w32 (first (upperHalf half (classAt n table h c)) -ℤ first (lowerHalf half (classAt n table h c)))
-  fork-weight-fits = rw (← weight-is) (weight-fits table half j (accepted .values) weight-place)
+  fork-weight-fits = rw (← weight-is) (weight-fits table half firstNumber (admitted .values) weight-place)

@@ -18,7 +18,8 @@ use Rattle.blocks.specs.Laws.Differences.{differences-again}
 use Rattle.blocks.specs.Laws.Known.{Among, distinct-known, distinct-seen, distinct-length, distinct-one}
 use Rattle.diagram.specs.Records.{branches, kinds, recordsBelow, node}
 use Rattle.diagram.specs.Laws.Alike.{BlockLike, blocks-at, lower-of-block, upper-of-block, like-lower, table-like, table-block, twice-blocks}
-use Rattle.diagram.specs.Laws.Shifts.{branches-differences, same-branches, lower-differences, same-lower, passing-halves}
+use Rattle.diagram.specs.Laws.Branching.{unbranched-halves}
+use Rattle.diagram.specs.Laws.Shifts.{branches-differences, same-branches, lower-differences, same-lower}
 
 module _ (n : ℕ) (table : List ℤ) where
   -- ---- a node by its block's halves
@@ -165,7 +166,7 @@ module _ (n : ℕ) (table : List ℤ) (size : length table ≡ 2 ^ n) where
       lower = same-lower i whole values (all (j / 2) within-height)
 
       halves : lowerHalf i whole ≡ upperHalf i whole
-      halves = passing-halves i whole (same-branches i whole values (all (j / 2) within-height) ∙ e)
+      halves = unbranched-halves i whole (same-branches i whole values (all (j / 2) within-height) ∙ e)
 
       even-or-odd : Dec (j % 2 ≡ 0) → differences (block table i j) ≡ differences (lowerHalf i values)
       even-or-odd (yes p) =

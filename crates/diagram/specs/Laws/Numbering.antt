@@ -38,6 +38,11 @@ weight-of-differences i values h =
     less : ℤ → ℤ
     less v = v -ℤ first values
 
+-- A record has four numbers.
+pub numbers-length : (rs : List Record) → length (flatMap recordNumbers rs) ≡ recordSize * length rs
+unfolding recordNumbers recordSize
+numbers-length rs = length-flatMap recordNumbers recordSize (λ r. refl) rs
+
 module _ (n : ℕ) (table : List ℤ) where
   -- ---- how many there are
 
@@ -126,8 +131,7 @@ module _ (n : ℕ) (table : List ℤ) where
 
   -- The numbers that Build writes, and the records that Walk counts in them.
   pub written-length : length (written n table) ≡ recordSize * length (records n table)
-  unfolding recordNumbers recordSize
-  written-length = length-flatMap recordNumbers recordSize (λ r. refl) (records n table)
+  written-length = numbers-length (records n table)
 
   pub written-whole : length (written n table) % recordSize ≡ 0
   unfolding recordSize

@@ -24,7 +24,7 @@ use Rattle.diagram.specs.Accepted.{written}
 use Rattle.diagram.specs.Laws.Alike.{BlockLike, like-length, like-lower, like-upper}
 use Rattle.diagram.specs.Laws.Nodes.{node-branching, node-passing, node-below, kind-known}
 use Rattle.diagram.specs.Laws.Numbering.{numbered, kind-variable, below-more, StandsFor, kind-stands}
-use Rattle.diagram.specs.Laws.Shifts.{passing-halves}
+use Rattle.diagram.specs.Laws.Branching.{unbranched-halves}
 
 -- ---- one step of a path
 
@@ -172,7 +172,7 @@ module _ (n : ℕ) (table : List ℤ) (size : length table ≡ 2 ^ n) where
         ∙ lower
         ∙ ap₂ (λ v f. v -ℤ f)
         (yes-or-no (bitSet x i)
-        (λ one. ap (λ l. getD l (x % 2 ^ i) (pos 0)) (passing-halves i values e) ∙ sym (value-high values i x one))
+        (λ one. ap (λ l. getD l (x % 2 ^ i) (pos 0)) (unbranched-halves i values e) ∙ sym (value-high values i x one))
         (λ none. sym (value-low values i x none)))
         (first-lower values i)
 

@@ -13,9 +13,9 @@ use Rattle.blocks.specs.Classes.{numberIn}
 use Rattle.blocks.specs.Laws.Known.{own-distinct}
 use Rattle.diagram.specs.Records.{branches, kinds, recordsBelow, node, records}
 use Rattle.diagram.specs.Laws.Alike.{BlockLike, whole-length, block-like, like-length, like-lower, like-upper}
+use Rattle.diagram.specs.Laws.Branching.{branched-halves}
 use Rattle.diagram.specs.Laws.Nodes.{node-branching, kind-block}
 use Rattle.diagram.specs.Laws.Numbering.{records-count, numbered, StandsFor, kind-stands}
-use Rattle.diagram.specs.Laws.Shifts.{branching-halves}
 
 -- Record m has variable height; its block is that of height + 1 at this place, which branches and has node m.
 pub record RecordBlock (n : ℕ) (table : List ℤ) (m : ℕ) : Type 0 where
@@ -71,7 +71,7 @@ module _ (n : ℕ) (table : List ℤ) (size : length table ≡ 2 ^ n) where
     -- The halves differ somewhere.
     pub halves-differ : ((y : ℕ) → y < 2 ^ r .height → getD (lowerHalf (r .height) (blockOf r)) y (pos 0) ≡ getD (upperHalf (r .height) (blockOf r)) y (pos 0)) → ⊥
     halves-differ same =
-        branching-halves (r .height) (blockOf r) (r .branched)
+        branched-halves (r .height) (blockOf r) (r .branched)
         (ext-getD (pos 0) (lowerHalf (r .height) (blockOf r)) (upperHalf (r .height) (blockOf r))
         (lower-length ∙ sym (like-length n table size (r .height) (upperHalf (r .height) (blockOf r)) height-within upper-like))
         (λ y l. same y (omega (arith, lower-length))))

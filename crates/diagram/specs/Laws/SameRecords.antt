@@ -1,7 +1,7 @@
 -- Tables of equal records: those that differ by one constant, and no others.
 use Prim.Native.Nat.{ℕ, zero, suc, _+_, _-_, _*_, _^_, _<_}
 use mathlib.Core.Path.{_≡_, refl, sym, _∙_, ap, ap₂}
-use mathlib.Core.List.{List, map, flatMap}
+use mathlib.Core.List.{List, map}
 use native.Mathlib.Omega.{arith}
 use lib.ListN.{length, getD, take, drop, length-map}
 use lib.Seq.{ext-getD}
@@ -14,8 +14,9 @@ use Rattle.numbers.specs.Laws.Selections.{keep-unseen, flatMap-same}
 use Rattle.blocks.specs.Blocks.{block, blocks, first, lowerHalf, upperHalf, differences}
 use Rattle.blocks.specs.Classes.{numberIn, distinct}
 use Rattle.blocks.specs.Laws.Differences.{differences-more}
-use Rattle.diagram.specs.Records.{branches, kinds, recordsBelow, node, Record, recordOf, recordsAt, records, recordNumbers}
+use Rattle.diagram.specs.Records.{branches, kinds, recordsBelow, node, Record, recordOf, recordsAt, records}
 use Rattle.diagram.specs.Walk.{pathWeight, recordCount}
+use Rattle.diagram.specs.Accepted.{written}
 use Rattle.diagram.specs.Laws.Nodes.{node-branching, node-passing}
 use Rattle.diagram.specs.Laws.Shifts.{shift, branches-shift}
 use Rattle.diagram.specs.Laws.Walks.{root-path}
@@ -78,10 +79,10 @@ records-shift n c table =
 -- ---- equal records, by walking
 
 -- Of equal records, the tables are equally far from their offsets.
-same-records-same-steps : (n : ℕ) (left right : List ℤ) → length left ≡ 2 ^ n → length right ≡ 2 ^ n → records n left ≡ records n right → (x : ℕ) → x < 2 ^ n → getD left x (pos 0) -ℤ first left ≡ getD right x (pos 0) -ℤ first right
+same-records-same-steps : (n : ℕ) (left right : List ℤ) → length left ≡ 2 ^ n → length right ≡ 2 ^ n → written n left ≡ written n right → (x : ℕ) → x < 2 ^ n → getD left x (pos 0) -ℤ first left ≡ getD right x (pos 0) -ℤ first right
 same-records-same-steps n left right sl sr e x h =
     sym (root-path n left sl x h)
-    ∙ ap (λ rs. pathWeight (flatMap recordNumbers rs) n (recordCount (flatMap recordNumbers rs)) x) e
+    ∙ ap (λ list. pathWeight list n (recordCount list) x) e
     ∙ root-path n right sr x h
 
 -- From a - b equal to c - d, c is a more by d - b.
@@ -93,7 +94,7 @@ across a b c d e =
     ∙ ap (λ z. a +ℤ z) (+ℤ-comm (negℤ b) d)
 
 -- Of equal records, one table is the other more by the difference of their offsets.
-pub same-records : (n : ℕ) (left right : List ℤ) → length left ≡ 2 ^ n → length right ≡ 2 ^ n → records n left ≡ records n right → right ≡ shift (first right -ℤ first left) left
+pub same-records : (n : ℕ) (left right : List ℤ) → length left ≡ 2 ^ n → length right ≡ 2 ^ n → written n left ≡ written n right → right ≡ shift (first right -ℤ first left) left
 same-records n left right sl sr e =
     ext-getD (pos 0) right (shift c left)
     (sr ∙ sym (length-map left (λ v. v +ℤ c) ∙ sl))

@@ -1,49 +1,45 @@
 -- One constant added to every value: which blocks branch, and what the halves' differences are, stays.
 use Prim.Native.Nat.{ℕ, _^_}
-use mathlib.Core.Path.{_≡_, refl, sym, _∙_, ap, ap₂}
-use mathlib.Core.Bool.{true, false, not, true≢false, _&&_}
-use mathlib.Core.List.{List, [], _∷_, map}
-use lib.ListN.{take, drop}
+use mathlib.Core.Path.{_≡_, sym, _∙_, ap}
+use mathlib.Core.List.{List, map, map-id}
 use lib.IntN.{ℤ, negℤ, _+ℤ_, _-ℤ_, +ℤ-negℤ-cancel}
-use borrow.Author.Tests.{not-false}
-use Rattle.numbers.specs.Ranges.{eqZ}
 use Rattle.numbers.specs.Laws.Bools.{yes-or-no}
-use Rattle.numbers.specs.Laws.Integers.{eqZ-true, eqZ-refl}
-use Rattle.numbers.specs.Laws.Lists.{map-take, map-drop}
+use Rattle.numbers.specs.Laws.Lists.{map-take, map-drop, map-map, map-same}
 use Rattle.blocks.specs.Blocks.{first, lowerHalf, upperHalf, differences}
-use Rattle.blocks.specs.Classes.{same}
 use Rattle.blocks.specs.Laws.Differences.{differences-less}
-use Rattle.blocks.specs.Laws.Same.{same-true, equal-same}
 use Rattle.diagram.specs.Records.{branches}
+use Rattle.diagram.specs.Laws.Branching.{unbranched-halves, branched-halves}
 
 -- Every value more by one constant.
 abbrev pub shift : ℤ → List ℤ → List ℤ
 shift c values = map (λ v. v +ℤ c) values
 
--- The tests for equality do not see the constant.
-eqZ-shift : (c a b : ℤ) → eqZ (a +ℤ c) (b +ℤ c) ≡ eqZ a b
-eqZ-shift c a b =
-    yes-or-no (eqZ a b)
-    (λ e. ap (λ x. eqZ (a +ℤ c) (x +ℤ c)) (sym (eqZ-true a b e)) ∙ eqZ-refl (a +ℤ c) ∙ sym e)
-    (λ e. yes-or-no (eqZ (a +ℤ c) (b +ℤ c))
-    (λ t. absurd (true≢false (sym (eqZ-refl a) ∙ ap (eqZ a) (back (eqZ-true (a +ℤ c) (b +ℤ c) t)) ∙ e)))
-    (λ t. t ∙ sym e))
-  where
-    back : a +ℤ c ≡ b +ℤ c → a ≡ b
-    back e = sym (+ℤ-negℤ-cancel a c) ∙ ap (λ x. x -ℤ c) e ∙ +ℤ-negℤ-cancel b c
+-- Nothing is lost.
+shift-back : (c : ℤ) (values : List ℤ) → shift (negℤ c) (shift c values) ≡ values
+shift-back c values = map-map (λ v. v +ℤ c) (λ v. v -ℤ c) values ∙ map-same (λ v. v +ℤ c -ℤ c) (λ v. v) values (λ v. +ℤ-negℤ-cancel v c) ∙ map-id values
 
-same-shift : (c : ℤ) (left right : List ℤ) → same (shift c left) (shift c right) ≡ same left right
-unfolding same
-same-shift c [] [] = refl
-same-shift c [] (z ∷ right) = refl
-same-shift c (y ∷ left) [] = refl
-same-shift c (y ∷ left) (z ∷ right) = ap₂ (λ a b. a && b) (eqZ-shift c y z) (same-shift c left right)
+-- Halves are equal where they were.
+module _ (i : ℕ) (c : ℤ) (values : List ℤ) where
+  lower-shift : lowerHalf i (shift c values) ≡ shift c (lowerHalf i values)
+  unfolding lowerHalf
+  lower-shift = sym (map-take (λ v. v +ℤ c) (2 ^ i) values)
 
--- Nor does the test for branching.
+  upper-shift : upperHalf i (shift c values) ≡ shift c (upperHalf i values)
+  unfolding upperHalf
+  upper-shift = sym (map-drop (λ v. v +ℤ c) (2 ^ i) values)
+
+  halves-shift : lowerHalf i values ≡ upperHalf i values → lowerHalf i (shift c values) ≡ upperHalf i (shift c values)
+  halves-shift e = lower-shift ∙ ap (shift c) e ∙ sym upper-shift
+
+-- Which blocks branch stays.
 pub branches-shift : (i : ℕ) (c : ℤ) (values : List ℤ) → branches i (shift c values) ≡ branches i values
-unfolding branches lowerHalf upperHalf
 branches-shift i c values =
-    ap not (ap₂ same (sym (map-take (λ v. v +ℤ c) (2 ^ i) values)) (sym (map-drop (λ v. v +ℤ c) (2 ^ i) values)) ∙ same-shift c (take (2 ^ i) values) (drop (2 ^ i) values))
+    yes-or-no (branches i (shift c values))
+    (λ t. t ∙ sym (yes-or-no (branches i values) (λ b. b) (λ b. absurd (branched-halves i (shift c values) t (halves-shift i c values (unbranched-halves i values b))))))
+    (λ t. t ∙ sym (yes-or-no (branches i values) (λ b. absurd (branched-halves i values b (back (unbranched-halves i (shift c values) t)))) (λ b. b)))
+  where
+    back : lowerHalf i (shift c values) ≡ upperHalf i (shift c values) → lowerHalf i values ≡ upperHalf i values
+    back e = rw (shift-back c values) at (halves-shift i (negℤ c) (shift c values) e)
 
 -- A block's differences branch where the block does.
 pub branches-differences : (i : ℕ) (values : List ℤ) → branches i (differences values) ≡ branches i values
@@ -56,14 +52,12 @@ same-branches i left right e = sym (branches-differences i left) ∙ ap (branche
 
 -- The differences of a half are seen in the differences of the block.
 pub lower-differences : (i : ℕ) (values : List ℤ) → differences (lowerHalf i (differences values)) ≡ differences (lowerHalf i values)
-unfolding differences lowerHalf
-lower-differences i values =
-    ap differences (sym (map-take (λ v. v -ℤ first values) (2 ^ i) values)) ∙ differences-less (lowerHalf i values) (first values)
+unfolding differences
+lower-differences i values = ap differences (lower-shift i (negℤ (first values)) values) ∙ differences-less (lowerHalf i values) (first values)
 
 pub upper-differences : (i : ℕ) (values : List ℤ) → differences (upperHalf i (differences values)) ≡ differences (upperHalf i values)
-unfolding differences upperHalf
-upper-differences i values =
-    ap differences (sym (map-drop (λ v. v -ℤ first values) (2 ^ i) values)) ∙ differences-less (upperHalf i values) (first values)
+unfolding differences
+upper-differences i values = ap differences (upper-shift i (negℤ (first values)) values) ∙ differences-less (upperHalf i values) (first values)
 
 -- Blocks of equal differences have halves of equal differences.
 pub same-lower : (i : ℕ) (left right : List ℤ) → differences left ≡ differences right → differences (lowerHalf i left) ≡ differences (lowerHalf i right)
@@ -71,12 +65,3 @@ same-lower i left right e = sym (lower-differences i left) ∙ ap (λ d. differe
 
 pub same-upper : (i : ℕ) (left right : List ℤ) → differences left ≡ differences right → differences (upperHalf i left) ≡ differences (upperHalf i right)
 same-upper i left right e = sym (upper-differences i left) ∙ ap (λ d. differences (upperHalf i d)) e ∙ upper-differences i right
-
--- A block that does not branch has equal halves, and one that does has not.
-pub passing-halves : (i : ℕ) (values : List ℤ) → branches i values ≡ false → lowerHalf i values ≡ upperHalf i values
-unfolding branches
-passing-halves i values e = same-true (lowerHalf i values) (upperHalf i values) (not-false (same (lowerHalf i values) (upperHalf i values)) e)
-
-pub branching-halves : (i : ℕ) (values : List ℤ) → branches i values ≡ true → lowerHalf i values ≡ upperHalf i values → ⊥
-unfolding branches
-branching-halves i values b e = true≢false (sym b ∙ ap not (equal-same (lowerHalf i values) (upperHalf i values) e))

@@ -19,7 +19,7 @@ module _ (c : tie.After-build) where
   abbrev left : List ℤ
   left = c .build .last .1 .1 .0
 
-  given : (answer : Built) → c .build .result ≡ answer → BuildGiven (start .args .n) (start .args .table .now) (start .args .nodes .now) (start .args .count .now) (start .args .offset .now) (resultOf (built answer)) left (leftBehind (built answer) (λ s. s .nodes) (start .args .count .now)) (leftBehind (built answer) (λ s. s .offset) (start .args .offset .now))
+  given : (answer : Built) → c .build .result ≡ answer → BuildGiven (start .args .n) (start .args .table .now) (start .args .nodes .now) (start .args .count .now) (start .args .offset .now) (resultOf (built answer)) left (leftBehind (built answer) (λ s. s .nodes) (start .args .count .now)) (leftBehind (built answer) (λ s. s .tableOffset) (start .args .offset .now))
   given answer e =
       build-given (start .args .n) (start .args .table .now) (start .args .nodes .now) (start .args .count .now) (start .args .offset .now) answer left
       (subst (λ r. Builds (start .args .n) (start .args .table .now) (start .args .nodes .now) r left) e (c .build .ensures))

@@ -12,13 +12,13 @@ use Rattle.image.specs.Run.{Result, run, expand, expanded, Expands}
 use Rattle.image.specs.declared.Expanded.{Expanded}
 use Rattle.exports.specs.Results.{resultOf, leftBehind, BuildGiven, WalkGiven, RunGiven, ExpandGiven}
 
-pub build-given : (n : ℕ) (table nodes : List ℤ) (count : ℕ) (offset : ℤ) (r : Built) (nodes′ : List ℤ) → Builds n table nodes r nodes′ → BuildGiven n table nodes count offset (resultOf (built r)) nodes′ (leftBehind (built r) (λ s. s .nodes) count) (leftBehind (built r) (λ s. s .offset) offset)
+pub build-given : (n : ℕ) (table nodes : List ℤ) (count : ℕ) (offset : ℤ) (r : Built) (nodes′ : List ℤ) → Builds n table nodes r nodes′ → BuildGiven n table nodes count offset (resultOf (built r)) nodes′ (leftBehind (built r) (λ s. s .nodes) count) (leftBehind (built r) (λ s. s .tableOffset) offset)
 build-given n table nodes count offset r nodes′ builds =
     record {
       answered = ap resultOf (builds .answered);
       recorded = builds .left;
       counted = ap (λ a. leftBehind a (λ s. s .nodes) count) (builds .answered);
-      valued = ap (λ a. leftBehind a (λ s. s .offset) offset) (builds .answered);
+      valued = ap (λ a. leftBehind a (λ s. s .tableOffset) offset) (builds .answered);
     }
 
 pub walk-given : (n : ℕ) (offset : ℤ) (records : List ℤ) (x : ℕ) (value : ℤ) (answer : Answer ℤ) → walk n offset records x ≡ answer → WalkGiven n offset records x value (resultOf answer) (leftBehind answer (λ v. v) value)

@@ -63,7 +63,7 @@ record-table-requires c κs =
     let p = c .before .before .before .before in
     let s = p .before .before .before in
     record {
-      accepted = s .pre;
+      admitted = s .pre;
       classPlaces = length-take-le _ _ (few-places p) ∙ places p;
       firstPlaces = length-take-le _ _ (few-places p) ∙ places p;
       countPlaces = length-take-le _ _ (let f = few s in omega arith) ∙ add-one (s .args .n);

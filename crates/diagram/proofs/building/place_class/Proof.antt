@@ -73,7 +73,7 @@ add-write-record : tie.Need-add-write-record
 add-write-record c = search needs
 
 sub-write-record : tie.Need-sub-write-record
-sub-write-record c = let l = start (c .before .before) .pre .0 .cut in omega arith
+sub-write-record c = let l = start (c .before .before) .pre .0 .class .cut in omega arith
 
 write-record-requires : tie.Need-write-record-requires
 write-record-requires c κs =

@@ -17,7 +17,7 @@ loop-holds c = cut-start (c .before .before .before .pre)
 
 -- In a turn the class is one of the cut's.
 below : (i : tie.In-loop Inv-loop μ-loop) → i .before .loop .c < classCount (i .before .before .before .before .before .args .n) (i .before .before .before .before .before .args .table .now) (i .before .before .before .before .before .args .h)
-below i = let l = i .loop-test .taken in let e = i .before .before .before .before .before .pre .classes in omega arith
+below i = let l = i .loop-test .taken in let e = i .before .before .before .before .before .pre .classCounted in omega arith
 
 place-class-requires : tie.Need-place-class-requires Inv-loop μ-loop
 place-class-requires c κs =
@@ -45,7 +45,7 @@ same-length-2 c = nodes-kept (c .before .before .before .before .before .pre) (c
 returns : tie.Need-returns Inv-loop μ-loop
 returns c =
     let r = c .before .before .before .before .before .pre in
-    cut-done r (c .before .loop .inv) (let l = c .loop-test .left in let e = r .classes in omega arith)
+    cut-done r (c .before .loop .inv) (let l = c .loop-test .left in let e = r .classCounted in omega arith)
 
 pub place-cut-spec : {M : Type 1} → statement M
 place-cut-spec =

@@ -11,13 +11,13 @@ use mir.Facts.{toZ-ofZ}
 use borrow.Author.Needs.{needs, sfits-of}
 use Rattle.blocks.specs.Blocks.{block, first}
 use Rattle.blocks.specs.Inner.Layout.{cutPlace}
-use Rattle.diagram.specs.Records.{branches}
-use Rattle.diagram.specs.Laws.Forks.{j, low-class, high-class, cut-fits, first-inside, first-small, low-class-place, high-class-place, low-node-place, high-node-place, half-fits, weight-place, half-small, whole-place, forkRead, fork-is}
+use Rattle.diagram.specs.Laws.Forks.{low-class, high-class, cut-fits, first-small, low-class-place, high-class-place, low-node-place, high-node-place, half-fits, weight-place, forkRead, fork-is}
+use Rattle.diagram.specs.Laws.FirstBlocks.{firstOf, first-place}
 use Rattle.diagram.proofs.forks.fork_at.Statement.{statement}
 use Rattle.diagram.proofs.forks.fork_at.Tie as tie
 
 in-cut-requires : tie.Need-in-cut-requires
-in-cut-requires c κs = let f = c .before .before .before .pre in (cut-fits f .0, first-inside f)
+in-cut-requires c κs = let f = c .before .before .before .pre in (cut-fits f .0, first-place (f .class))
 
 add-in-cut : tie.Need-add-in-cut
 add-in-cut c = search needs
@@ -44,13 +44,13 @@ add-weight-of-block : tie.Need-add-weight-of-block
 add-weight-of-block c = search needs
 
 sub-weight-of-block : tie.Need-sub-weight-of-block
-sub-weight-of-block c = let l = c .before .before .before .before .before .before .pre .cut in omega arith
+sub-weight-of-block c = let l = c .before .before .before .before .before .before .pre .class .cut in omega arith
 
 weight-of-block-requires : tie.Need-weight-of-block-requires
 weight-of-block-requires c κs =
     let s = c .before .before .before .before .before .before in
     let f = s .pre in
-    (f .accepted .values, (half-fits f, rw (c .before .before .in-cut .ensures, add-one (s .args .h)) (weight-place f)))
+    (f .class .admitted .values, (half-fits f, rw (c .before .before .in-cut .ensures, add-one (s .args .h)) (weight-place f)))
 
 add-in-cut-4 : tie.Need-add-in-cut-4
 add-in-cut-4 c = search needs
@@ -70,20 +70,11 @@ in-cut-requires-5 c κs =
     let d = c .before .before in
     (cut-fits f .1, rw (d .in-cut3 .ensures, d .before .before .in-cut .ensures) (high-node-place f))
 
-add-block-branches : tie.Need-add-block-branches
-add-block-branches c = search needs
-
-sub-block-branches : tie.Need-sub-block-branches
-sub-block-branches c = let l = c .before .before .before .before .before .before .before .before .before .pre .cut in omega arith
-
-block-branches-requires : tie.Need-block-branches-requires
-block-branches-requires c κs =
-    let s = c .before .before .before .before .before .before .before .before .before in
-    let f = s .pre in
-    (let v = half-small f in omega arith, rw (c .before .before .before .before .before .in-cut .ensures, add-one (s .args .h)) (whole-place f))
+class-branches-requires : tie.Need-class-branches-requires
+class-branches-requires c κs = c .before .before .before .before .before .before .before .before .before .pre .class
 
 -- What each call read.
-module _ (c : tie.After-block-branches) where
+module _ (c : tie.After-class-branches) where
   abbrev start : tie.Start
   start = c .before .before .before .before .before .before .before .before .before .before
 
@@ -96,21 +87,18 @@ module _ (c : tie.After-block-branches) where
   is-high : c .before .before .before .before .in-cut3 .result ≡ high-class (start .pre)
   is-high = c .before .before .before .before .in-cut3 .ensures ∙ ap (λ k. getD (start .args .classes .now) (cutPlace (start .args .h + 1) + (k * 2 + 1)) 0) (low-read .before .in-cut .ensures)
 
-  is-weight : toZ w32 (ofZ w32 (c .before .before .before .weight-of-block .result)) ≡ first (block (start .args .table .now) (start .args .n - suc (start .args .h)) (j (start .pre) * 2 + 1)) -ℤ first (block (start .args .table .now) (start .args .n - suc (start .args .h)) (j (start .pre) * 2))
+  is-weight : toZ w32 (ofZ w32 (c .before .before .before .weight-of-block .result)) ≡ first (block (start .args .table .now) (start .args .n - suc (start .args .h)) (firstOf (start .pre .class) * 2 + 1)) -ℤ first (block (start .args .table .now) (start .args .n - suc (start .args .h)) (firstOf (start .pre .class) * 2))
   is-weight =
       toZ-ofZ (sfits-of (c .before .before .before .weight-of-block .ok))
       ∙ c .before .before .before .weight-of-block .ensures
       ∙ ap₂ (λ h k. first (block (start .args .table .now) (start .args .n - h) (k * 2 + 1)) -ℤ first (block (start .args .table .now) (start .args .n - h) (k * 2))) (add-one (start .args .h)) (low-read .before .in-cut .ensures)
 
-  fork-read : record { low = c .before .before .in-cut4 .result; high = c .before .in-cut5 .result; weight = toZ w32 (ofZ w32 (c .before .before .before .weight-of-block .result)); branching = c .block-branches .result } ≡ forkRead (start .pre)
+  fork-read : record { low = c .before .before .in-cut4 .result; high = c .before .in-cut5 .result; weight = toZ w32 (ofZ w32 (c .before .before .before .weight-of-block .result)); branching = c .class-branches .result } ≡ forkRead (start .pre)
   fork-read t = record {
     low = (c .before .before .in-cut4 .ensures ∙ ap (λ k. getD (start .args .row .now) (cutPlace (start .args .h + 1) + k) 0) is-low) t;
     high = (c .before .in-cut5 .ensures ∙ ap (λ k. getD (start .args .row .now) (cutPlace (start .args .h + 1) + k) 0) is-high) t;
     weight = is-weight t;
-    branching =
-        (c .block-branches .ensures
-        ∙ ap₂ (λ h k. branches (start .args .n - h) (block (start .args .table .now) (suc (start .args .n - h)) k)) (add-one (start .args .h)) (low-read .before .in-cut .ensures))
-        t;
+    branching = c .class-branches .ensures t;
   }
 
 returns : tie.Need-returns
@@ -135,7 +123,5 @@ fork-at-spec =
     in-cut-requires-4
     add-in-cut-5
     in-cut-requires-5
-    add-block-branches
-    sub-block-branches
-    block-branches-requires
+    class-branches-requires
     returns)

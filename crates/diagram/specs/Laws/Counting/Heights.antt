@@ -1,38 +1,17 @@
 -- The records of all heights, counted: up to height l by rising lists and jumps, above it by blocks.
 use Prim.Native.Nat.{ℕ, zero, suc, _+_, _-_, _*_, _^_, _≤_}
-use mathlib.Core.Path.{_≡_, refl, _∙_, ap, ap₂}
-use mathlib.Core.List.{List, [], _∷_, _++_, flatMap, append-nil}
-use native.Mathlib.Nat.{zero-add, add-zero, add-suc, sub-self, pow-zero, two-pow-succ}
+use mathlib.Core.Path.{_≡_, _∙_, ap}
+use mathlib.Core.List.{List}
+use native.Mathlib.Nat.{add-zero, add-suc, sub-self, pow-zero}
 use native.Mathlib.Omega.{arith}
-use lib.ListN.{length, length-append, length-map}
+use lib.ListN.{length}
 use lib.IntN.{ℤ}
-use Rattle.numbers.specs.Lists.{numbersFrom}
-use Rattle.numbers.specs.Laws.Lists.{range-suc}
 use Rattle.numbers.specs.Laws.Tallies.{sum-run-suc}
-use Rattle.numbers.specs.Laws.Selections.{flatMap-append}
-use Rattle.diagram.specs.Records.{kinds, recordsBelow, recordOf, recordsAt, records, nodeCount}
+use Rattle.diagram.specs.Records.{recordsBelow}
 use Rattle.diagram.specs.Bound.{jumps, risingKinds}
-use Rattle.diagram.specs.Laws.Counting.Kinds.{kinds-le-blocks, kinds-le-rising}
-
--- ---- the records of the heights up to one
-
--- The records of the variables below m, counted one by one.
-records-below : (n : ℕ) (table : List ℤ) (m : ℕ) → length (flatMap (recordsAt n table) (numbersFrom 0 m)) ≡ recordsBelow n table m
-unfolding flatMap numbersFrom recordsBelow recordsAt
-records-below n table zero = refl
-records-below n table (suc m) =
-    ap (λ l. length (flatMap (recordsAt n table) l)) (range-suc 0 m)
-    ∙ ap length (flatMap-append (recordsAt n table) (numbersFrom 0 m) ((0 + m) ∷ []))
-    ∙ length-append (flatMap (recordsAt n table) (numbersFrom 0 m)) (recordsAt n table (0 + m) ++ [])
-    ∙ ap₂ _+_ (records-below n table m)
-    (ap length (append-nil (recordsAt n table (0 + m)))
-    ∙ length-map (kinds n table (0 + m)) (recordOf n table (0 + m))
-    ∙ ap (λ i. length (kinds n table i)) (zero-add m))
-
--- The node count is the records of all heights and the terminal.
-pub node-count : (n : ℕ) (table : List ℤ) → nodeCount n table ≡ suc (recordsBelow n table n)
-unfolding nodeCount records
-node-count n table = ap suc (records-below n table n)
+use Rattle.diagram.specs.Laws.Counting.Kinds.{kinds-le-rising}
+use Rattle.diagram.specs.Laws.Alike.{twice-blocks}
+use Rattle.diagram.specs.Laws.Nodes.{kinds-le}
 
 -- The sum of the bound with one height more.
 pub rising-kinds-suc : (p l : ℕ) → risingKinds p (suc l) ≡ risingKinds p l + (p + 1) ^ (2 ^ suc l - 1)
@@ -59,10 +38,7 @@ unfolding recordsBelow
 high-heights n table l zero h = rw (add-zero l) (omega arith)
 high-heights n table l (suc m) h =
     let below = high-heights n table l m (omega arith) in
-    rw (add-suc l m) (omega (arith, kinds-le-blocks n table (l + m), halved))
-  where
-    halved : 2 ^ (n - (l + m)) ≡ 2 ^ (n - suc (l + m)) + 2 ^ (n - suc (l + m))
-    halved = ap (λ k. 2 ^ k) (let e : n - (l + m) ≡ suc (n - suc (l + m)) = omega arith in e) ∙ two-pow-succ (n - suc (l + m))
+    rw (add-suc l m) (omega (arith, kinds-le n table (l + m), twice-blocks n (l + m) (omega arith)))
 
 -- The heights above l have fewer records than there are blocks of height l.
 pub above-height : (n : ℕ) (table : List ℤ) (l : ℕ) → l ≤ n → recordsBelow n table n + 1 ≤ recordsBelow n table l + 2 ^ (n - l)

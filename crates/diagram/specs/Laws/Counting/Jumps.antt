@@ -17,6 +17,11 @@ use Rattle.blocks.specs.Laws.Blocks.{block-at}
 use Rattle.blocks.specs.Laws.Differences.{differences-at}
 use Rattle.diagram.specs.Bound.{stepAt, isJump, jumps}
 
+-- A list without a jump, step by step.
+pub no-jumps : (i : ℕ) (values : List ℤ) (p : ℕ) → jumps i values p ≡ 0 → (x : ℕ) → x < 2 ^ i - 1 → isJump p (stepAt values x) ≡ false
+unfolding jumps
+no-jumps i values p h x below = rw zero-add at (none-in-run (λ x. isJump p (stepAt values x)) 0 (2 ^ i - 1) h x below)
+
 -- Differences have the steps of the values.
 pub step-of-differences : (values : List ℤ) (x : ℕ) → x + 1 < length values → stepAt (differences values) x ≡ stepAt values x
 unfolding stepAt
@@ -76,8 +81,3 @@ jumps-within table i p (suc count) places h =
 pub jumps-in-blocks : (n : ℕ) (table : List ℤ) (i p : ℕ) → i ≤ n → sumOf (map (λ j. jumps i (block table i j) p) (numbersFrom 0 (2 ^ (n - i)))) ≤ jumps n table p
 unfolding jumps
 jumps-in-blocks n table i p h = jumps-within table i p (2 ^ (n - i)) (2 ^ n - 1) (omega (arith, power-split n i h, pow-pos n))
-
--- A list without a jump, step by step.
-pub no-jumps : (i : ℕ) (values : List ℤ) (p : ℕ) → jumps i values p ≡ 0 → (x : ℕ) → x < 2 ^ i - 1 → isJump p (stepAt values x) ≡ false
-unfolding jumps
-no-jumps i values p h x below = rw zero-add at (none-in-run (λ x. isJump p (stepAt values x)) 0 (2 ^ i - 1) h x below)

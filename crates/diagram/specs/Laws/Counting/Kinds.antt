@@ -1,9 +1,9 @@
--- What the records of one variable stand for, counted: no more than blocks, and no more than rising lists and jumps.
+-- What the records of one variable stand for, counted: no more than rising lists and jumps.
 use Prim.Native.Nat.{ℕ, suc, _+_, _-_, _^_, _≤_, _<_}
 use mathlib.Core.Path.{_≡_, sym, _∙_, ap}
-use mathlib.Core.Bool.{Bool, true, false, not, _||_, true≢false}
+use mathlib.Core.Bool.{Bool, true, false, _||_}
 use mathlib.Core.List.{List, [], map}
-use native.Mathlib.Nat.{zero-add, two-pow-succ}
+use native.Mathlib.Nat.{two-pow-succ}
 use native.Mathlib.Omega.{arith}
 use lib.ListN.{length, getD, take, drop, replicate, length-replicate, getD-replicate, length-map, length-take, length-drop}
 use lib.Seq.{ext-getD, getD-take, getD-drop}
@@ -13,18 +13,18 @@ use lib.IntN.{ℤ, pos}
 use borrow.Author.Tests.{ltb-false}
 use Rattle.numbers.specs.Lists.{numbersFrom, keep, tally}
 use Rattle.numbers.specs.Laws.Bools.{yes-or-no}
-use Rattle.numbers.specs.Laws.Lists.{length-range, getD-range, getD-map}
+use Rattle.numbers.specs.Laws.Lists.{getD-map}
 use Rattle.numbers.specs.Laws.Order.{no-difference}
-use Rattle.numbers.specs.Laws.Powers.{power-split, part-room}
-use Rattle.numbers.specs.Laws.Tallies.{kept-all, tally-le-length, tally-keep-le, tally-map, tally-runs, tally-le-sum}
+use Rattle.numbers.specs.Laws.Tallies.{kept-all, tally-keep-le, tally-map, tally-runs, tally-le-sum}
 use Rattle.blocks.specs.Blocks.{block, blocks, first, lowerHalf, upperHalf, differences}
 use Rattle.blocks.specs.Classes.{same}
-use Rattle.blocks.specs.Laws.Blocks.{blocks-count, block-length}
+use Rattle.blocks.specs.Laws.Blocks.{blocks-count}
 use Rattle.blocks.specs.Laws.Differences.{length-differences, differences-at, first-differences}
-use Rattle.blocks.specs.Laws.Known.{distinct-length}
-use Rattle.blocks.specs.Laws.Same.{same-true, equal-same}
+use Rattle.blocks.specs.Laws.Same.{same-true}
 use Rattle.diagram.specs.Records.{branches, kinds}
 use Rattle.diagram.specs.Bound.{jumps}
+use Rattle.diagram.specs.Laws.Alike.{blocks-at, whole-length}
+use Rattle.diagram.specs.Laws.Branching.{branched-halves}
 use Rattle.diagram.specs.Laws.Counting.Different.{isAmong, distinct-le}
 use Rattle.diagram.specs.Laws.Counting.Jumps.{jumps-of-differences, jumps-in-blocks, no-jumps}
 use Rattle.diagram.specs.Laws.Counting.Rising.{changing, changing-count, changing-complete}
@@ -42,10 +42,10 @@ one-value values k e x h =
 
 -- A branching block is not constant.
 branching-changes : (i : ℕ) (values : List ℤ) (k : ℕ) → length values ≡ 2 ^ suc i → branches i values ≡ true → same (differences values) (replicate k (pos 0)) ≡ false
-unfolding branches lowerHalf upperHalf
+unfolding lowerHalf upperHalf
 branching-changes i values k e h =
     yes-or-no (same (differences values) (replicate k (pos 0)))
-    (λ c. absurd (true≢false (sym h ∙ ap not (equal-same (lowerHalf i values) (upperHalf i values) (halves (same-true (differences values) (replicate k (pos 0)) c))))))
+    (λ c. absurd (branched-halves i values h (halves (same-true (differences values) (replicate k (pos 0)) c))))
     (λ c. c)
   where
     halves : differences values ≡ replicate k (pos 0) → lowerHalf i values ≡ upperHalf i values
@@ -60,17 +60,6 @@ branching-changes i values k e h =
       where
         lengths : length (take (2 ^ i) values) ≡ length (drop (2 ^ i) values)
         lengths = omega (arith, length-take (2 ^ i) values, length-drop (2 ^ i) values, two-pow-succ i)
-
--- ---- the kinds of one variable
-
--- There are no more kinds of a variable than blocks.
-pub kinds-le-blocks : (n : ℕ) (table : List ℤ) (i : ℕ) → length (kinds n table i) ≤ 2 ^ (n - suc i)
-unfolding kinds tally
-kinds-le-blocks n table i =
-    let different = distinct-length (map differences (keep (branches i) (blocks n table (suc i)))) in
-    let mapped = length-map (keep (branches i) (blocks n table (suc i))) differences in
-    let kept = tally-le-length (branches i) (blocks n table (suc i)) in
-    omega (arith, blocks-count n table (suc i))
 
 -- ---- kinds with a jump, and without
 
@@ -94,17 +83,6 @@ kind-covered i p values e b =
     (branching-changes i values (suc (2 ^ suc i - 1)) e b))
 
 module _ (n : ℕ) (table : List ℤ) (i : ℕ) (inside : i ≤ n) (whole : length table ≡ 2 ^ n) where
-  -- Block j is the j-th of the blocks.
-  blocks-at : (j : ℕ) → j < 2 ^ (n - i) → getD (blocks n table i) j [] ≡ block table i j
-  unfolding blocks
-  blocks-at j below =
-      getD-map (block table i) (numbersFrom 0 (2 ^ (n - i))) j 0 [] (rw length-range below)
-      ∙ ap (block table i) (getD-range 0 (2 ^ (n - i)) j 0 below ∙ zero-add j)
-
-  -- Every block of the table has its whole length.
-  whole-block : (j : ℕ) → j < 2 ^ (n - i) → length (block table i j) ≡ 2 ^ i
-  whole-block j below = block-length table i j (let room = part-room (2 ^ (n - i)) i j below in omega (arith, power-split n i inside))
-
   -- No more blocks of a height have a jump inside than the table has jumps.
   jumping-blocks : (p : ℕ) → tally (λ values. hasJump i p (differences values)) (blocks n table i) ≤ jumps n table p
   unfolding blocks hasJump
@@ -116,7 +94,7 @@ module _ (n : ℕ) (table : List ℤ) (i : ℕ) (inside : i ≤ n) (whole : leng
       alike : tally (λ j. hasJump i p (differences (block table i j))) (numbersFrom 0 (2 ^ (n - i))) ≡ tally (λ j. ltb 0 (jumps i (block table i j) p)) (numbersFrom 0 (2 ^ (n - i)))
       alike =
           tally-runs (λ j. hasJump i p (differences (block table i j))) (λ j. ltb 0 (jumps i (block table i j) p)) 0 0 (2 ^ (n - i))
-          (λ j below. ap (ltb 0) (jumps-of-differences i (block table i (0 + j)) p (whole-block (0 + j) (omega arith))))
+          (λ j below. ap (ltb 0) (jumps-of-differences i (block table i (0 + j)) p (whole-length n table whole i (0 + j) inside (omega arith))))
 
 -- A variable has no more kinds than there are rising lists, but for the constant one, and jumps.
 pub kinds-le-rising : (n : ℕ) (table : List ℤ) (i p : ℕ) → suc i ≤ n → length table ≡ 2 ^ n → length (kinds n table i) + 1 ≤ (p + 1) ^ (2 ^ suc i - 1) + jumps n table p
@@ -137,8 +115,8 @@ kinds-le-rising n table i p inside whole =
     of-block : (k : ℕ) → k < length (blocks n table (suc i)) → branches i (getD (blocks n table (suc i)) k []) ≡ true → Covered (getD (blocks n table (suc i)) k [])
     of-block k below =
         let inner : k < 2 ^ (n - suc i) = rw blocks-count at below in
-        rw (blocks-at n table (suc i) inside whole k inner)
-        (kind-covered i p (block table (suc i) k) (whole-block n table (suc i) inside whole k inner))
+        rw (blocks-at n table (suc i) k inner)
+        (kind-covered i p (block table (suc i) k) (whole-length n table whole (suc i) k inside inner))
 
     covered : (j : ℕ) → j < length (map differences branching) → (hasJump (suc i) p (getD (map differences branching) j []) || isAmong (changing p (2 ^ suc i - 1)) (getD (map differences branching) j [])) ≡ true
     covered j below =

@@ -7,11 +7,11 @@ ghost use Rattle.numbers.specs.Ranges.{isVariables, within, lesser, grea
 ghost use Rattle.numbers.specs.Inner.Bits.{bitLength};
 ghost use Rattle.numbers.specs.Widths.{railWidth, weightWidth};
 
-// The number of bits of a magnitude.
-pub fn bit_length(magnitude: u32) -> usize
-    ensures { λ r. ⌜ r ≡ bitLength magnitude ⌝ }
+// The number of bits of a number.
+pub fn bit_length(number: u32) -> usize
+    ensures { λ r. ⌜ r ≡ bitLength number ⌝ }
 {
-    (32 - u32::leading_zeros(magnitude)) as usize
+    (32 - u32::leading_zeros(number)) as usize
 }
 
 // The rail width of so many classes.

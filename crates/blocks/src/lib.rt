@@ -131,17 +131,17 @@ fn class_halves(
     table: &[i32],
     size: usize,
     j: usize,
-    values: &[i32],
+    above: &[i32],
     count: usize,
     classes: &mut [usize],
     firsts: &mut [usize],
 ) -> usize
     requires { ⌜ HalvesRoom (now table) size j count (now classes) (now firsts) ⌝ }
-    ensures { λ r. ⌜ rowsOf r (now (classes .exit)) (now (firsts .exit)) ≡ halvesClassed (now (table .entry)) size j (now (values .entry)) (rowsOf count (now (classes .entry)) (now (firsts .entry))) ⌝ }
+    ensures { λ r. ⌜ rowsOf r (now (classes .exit)) (now (firsts .exit)) ≡ halvesClassed (now (table .entry)) size j (now (above .entry)) (rowsOf count (now (classes .entry)) (now (firsts .entry))) ⌝ }
 {
-    let middle = values.len() / 2;
-    let lower = &values[..middle];
-    let upper = &values[middle..];
+    let middle = above.len() / 2;
+    let lower = &above[..middle];
+    let upper = &above[middle..];
     let known = class_block(table, size, 2 * j, lower, count, classes, firsts);
     class_block(table, size, 2 * j + 1, upper, known, classes, firsts)
 }

@@ -6,7 +6,7 @@ use mathlib.Core.List.{List, [], _∷_, map}
 use lib.ListN.{length, getD}
 use lib.IntN.{ℤ, pos}
 use Rattle.numbers.specs.Ranges.{isVariables, isValue, isWeight, widestAddress}
-use Rattle.numbers.specs.Widths.{railWidth, weightWidth}
+use Rattle.numbers.specs.Widths.{addressBits, weightWidth}
 use Rattle.image.specs.Cells.{Word, Cell, Card}
 use Rattle.image.specs.Reader.{mostClasses}
 
@@ -14,6 +14,7 @@ use Rattle.image.specs.Reader.{mostClasses}
 unfoldable pub noWord : Word
 noWord = record { class = 0; weight = pos 0 }
 
+-- The weights of a cell's words.
 unfoldable pub weights : List Word → List ℤ
 weights words = map (λ word. word .weight) words
 
@@ -25,7 +26,7 @@ pub record KeepsShape (left classes group incoming outgoing : ℕ) : Type 0 wher
   pub leaving : 1 ≤ outgoing
   pub most : outgoing ≤ mostClasses
   pub last : group ≡ left → outgoing ≡ 1
-  pub address : railWidth incoming + group ≤ widestAddress
+  pub address : addressBits incoming group ≤ widestAddress
 
 -- A word whose place in its cell has this group value.
 pub record KeepsWord (outgoing value : ℕ) (word : Word) : Type 0 where

@@ -11,7 +11,7 @@ use Rattle.blocks.proofs.class_halves.Statement.{statement}
 use Rattle.blocks.proofs.class_halves.Tie as tie
 
 slice-aggregate-lower : tie.Need-slice-aggregate-lower
-slice-aggregate-lower c = let l = c .before .before .before .args .values .now in sym (length-take-le (length l / 2) l (omega arith))
+slice-aggregate-lower c = let l = c .before .before .before .args .above .now in sym (length-take-le (length l / 2) l (omega arith))
 
 mul-upper : tie.Need-mul-upper
 mul-upper c = search needs
@@ -41,7 +41,7 @@ class-block-requires-2 : tie.Need-class-block-requires-2
 class-block-requires-2 c κs =
     let s = c .before .before .before .before .before .before .before .before .before .before .before .before .before in
     let k = c .before .before .before .before .before .before .class-block in
-    upper-room (s .args .table .now) (s .args .size) (s .args .j) (rowsOf (s .args .count) (s .args .classes .now) (s .args .firsts .now)) (s .pre) (take (length (s .args .values .now) / 2) (s .args .values .now))
+    upper-room (s .args .table .now) (s .args .size) (s .args .j) (rowsOf (s .args .count) (s .args .classes .now) (s .args .firsts .now)) (s .pre) (take (length (s .args .above .now) / 2) (s .args .above .now))
     (rowsOf (k .result) (k .last .1 .1 .1 .1 .1 .0) (k .last .1 .1 .1 .1 .1 .1 .0)) (k .ensures)
 
 same-length : tie.Need-same-length
@@ -54,7 +54,7 @@ returns : tie.Need-returns
 unfolding halvesClassed
 returns c =
     let a = c .before .before .before .before .before .before .before .before .before .before .before .before .before .before .before .before .before .before .args in
-    let l = a .values .now in
+    let l = a .above .now in
     c .before .before .before .before .class-block2 .ensures
     ∙ ap₂ (blockClassed (a .table .now) (a .size) (2 * a .j + 1)) (take-all (length l - length l / 2) (drop (length l / 2) l) (rw length-drop (omega arith))) (c .before .before .before .before .before .before .before .before .before .before .before .class-block .ensures)
 

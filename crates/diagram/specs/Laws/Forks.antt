@@ -14,7 +14,7 @@ use mir.Val.{SFits, ofZ, toZ}
 use mir.Facts.{toZ-ofZ}
 use Rattle.numbers.specs.Lists.{every}
 use Rattle.numbers.specs.Ranges.{isValue}
-use Rattle.numbers.specs.Laws.Bounds.{difference-weight}
+use Rattle.numbers.specs.Laws.Bounds.{weight-mag, difference-weight}
 use Rattle.numbers.specs.Laws.Lists.{every-at}
 use Rattle.numbers.specs.Laws.Powers.{part-room, power-split}
 use Rattle.blocks.specs.Blocks.{block, first, lowerHalf, upperHalf, differences}
@@ -27,7 +27,7 @@ use Rattle.diagram.specs.Records.{branches, node, recordOf}
 use Rattle.diagram.specs.Inner.Building.{forkOf, Forking}
 use Rattle.diagram.specs.declared.Fork.{Fork}
 use Rattle.diagram.specs.Laws.Alike.{BlockLike, lower-of-block, upper-of-block, whole-length, like-lower, like-upper}
-use Rattle.diagram.specs.Laws.Checks.{variables-range, weight-mag}
+use Rattle.diagram.specs.Laws.Checks.{variables-range}
 use Rattle.diagram.specs.Laws.Nodes.{node-differences, same-node, node-below}
 use Rattle.diagram.specs.Laws.Numbering.{weight-of-differences, records-count, records-room, below-more}
 use Rattle.blocks.specs.Laws.Places.{place-inside, length-numbers, length-firsts, class-at, first-block}

@@ -1,5 +1,5 @@
 -- Cards that keep the paper's rules: what the reader admits, said of cells and words instead of bytes.
-use Prim.Native.Nat.{ℕ, _+_, _-_, _*_, _%_, _^_, _≤_, _<_}
+use Prim.Native.Nat.{ℕ, _-_, _*_, _%_, _^_, _≤_, _<_}
 use mathlib.Core.Path.{_≡_}
 use mathlib.Core.Bool.{true}
 use mathlib.Core.List.{List, [], _∷_, map}
@@ -21,7 +21,7 @@ weights words = map (λ word. word .weight) words
 -- The numbers of a cell that begins with so many variables left and so many classes.
 pub record KeepsShape (left classes group incoming outgoing : ℕ) : Type 0 where
   pub some : 1 ≤ group
-  pub within : group ≤ left
+  pub inside : group ≤ left
   pub joined : incoming ≡ classes
   pub leaving : 1 ≤ outgoing
   pub most : outgoing ≤ mostClasses

@@ -43,5 +43,5 @@ pub record IsDue (p : Place) (command : Command) : Type 0 where
 
 -- A command that is due at a place and keeps its rules there.
 pub record Follows (p : Place) (command : Command) : Type 0 where
-  pub due : IsDue p command
+  pub isDue : IsDue p command
   pub rules : keepsRules p command ≡ true

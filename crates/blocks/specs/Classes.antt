@@ -1,4 +1,4 @@
--- Cuts and their classes, terms of the paper. Classes are told apart by differences and numbered by first appearance.
+-- Cuts and their classes. Classes are told apart by differences and numbered by first appearance.
 use Prim.Native.Nat.{ℕ, zero, suc, _-_}
 use mathlib.Core.Bool.{Bool, true, false, _&&_}
 use mathlib.Core.List.{List, [], _∷_, _++_, map}
@@ -33,7 +33,7 @@ learnAll known (d ∷ ds) = learnAll (learn known d) ds
 unfoldable pub distinct : List (List ℤ) → List (List ℤ)
 distinct ds = learnAll [] ds
 
--- Classes of cut h (the paper's terms): the different differences among the blocks of height n - h, by class number.
+-- The classes of cut h, which lies below the top h variables (cut and class are the paper's terms): the different differences among the blocks of height n - h, by class number.
 unfoldable pub classes : ℕ → List ℤ → ℕ → List (List ℤ)
 classes n table h = distinct (map differences (blocks n table (n - h)))
 
@@ -41,10 +41,10 @@ classes n table h = distinct (map differences (blocks n table (n - h)))
 unfoldable pub classCount : ℕ → List ℤ → ℕ → ℕ
 classCount n table h = length (classes n table h)
 
--- The class at cut h of a block of height n - h, given by its values.
+-- The class (the paper's term) at cut h of a block of height n - h, given by its values.
 unfoldable pub classOf : ℕ → List ℤ → ℕ → List ℤ → ℕ
 classOf n table h values = numberIn (classes n table h) (differences values)
 
--- The rail width at cut h.
+-- The rail width at cut h (the paper's term).
 unfoldable pub railAt : ℕ → List ℤ → ℕ → ℕ
 railAt n table h = railWidth (classCount n table h)

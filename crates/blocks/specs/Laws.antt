@@ -7,6 +7,7 @@ pub mod Comparing
 pub mod Cut
 pub mod Cuts
 pub mod Differences
+pub mod Halves
 pub mod Known
 pub mod Places
 pub mod Same

@@ -1,12 +1,11 @@
 // Blocks of a table, their differences, and the classes of every cut.
 ghost use mathlib.Core.Path.{_≡_};
-ghost use mathlib.Core.List.{map};
-ghost use Prim.Native.Nat.{ℕ, suc, _+_, _*_, _/_, _^_, _≤_, _<_};
+ghost use Prim.Native.Nat.{suc, _+_, _*_, _/_, _^_, _≤_, _<_};
 ghost use lib.ListN.{length, getD, take, drop};
 ghost use lib.IntN.{pos, _-ℤ_};
 ghost use Rattle.blocks.specs.Blocks.{block, first, differences};
 ghost use Rattle.blocks.specs.Classes.{same, numberIn};
-ghost use Rattle.blocks.specs.Inner.Layout.{cutPlace, less, part, partDifferences, PartsWithin, CutRoom, CutClassed, CutsRoom, CutPlaced, AllClassed, countNoted, firstsNoted};
+ghost use Rattle.blocks.specs.Inner.Layout.{cutPlace, less, part, partDifferences, PartsWithin, rowsOf, BlockRoom, blockClassed, HalvesRoom, halvesClassed, CutRoom, CutClassed, CutsRoom, CutPlaced, AllClassed, countNoted, firstsNoted};
 
 // A value less a constant, in a width that holds any such difference.
 fn difference(values: &[i32], x: usize, constant: i32) -> i64
@@ -109,31 +108,71 @@ fn note_first(firsts: &mut [usize], count: usize, j: usize, class: usize) -> usi
     count
 }
 
-// The class of part j of a table among the known ones.
-fn class_of_part(table: &[i32], size: usize, firsts: &[usize], j: usize) -> usize
-    requires { ⌜ PartsWithin (now table) size (now firsts) ⌝ }
-    requires { ⌜ j * size + size ≤ length (now table) ⌝ }
-    ensures { λ r. ⌜ r ≡ numberIn (partDifferences (now (table .entry)) size (now (firsts .entry))) (differences (part (now (table .entry)) size j)) ⌝ }
+// A block is classed: its class is noted, and the block as the first of its class where that is new.
+fn class_block(
+    table: &[i32],
+    size: usize,
+    j: usize,
+    values: &[i32],
+    count: usize,
+    classes: &mut [usize],
+    firsts: &mut [usize],
+) -> usize
+    requires { ⌜ BlockRoom (now table) size j count (now classes) (now firsts) ⌝ }
+    ensures { λ r. ⌜ rowsOf r (now (classes .exit)) (now (firsts .exit)) ≡ blockClassed (now (table .entry)) size j (now (values .entry)) (rowsOf count (now (classes .entry)) (now (firsts .entry))) ⌝ }
 {
-    let start = j * size;
-    let end = start + size;
-    find_class(table, size, firsts, &table[start..end])
+    let class = find_class(table, size, &firsts[..count], values);
+    classes[j] = class;
+    note_first(firsts, count, j, class)
 }
 
-// The classes of a cut whose blocks have this size: each block's class, each class's first block, and the class count.
-fn class_cut(table: &[i32], size: usize, classes: &mut [usize], firsts: &mut [usize]) -> usize
+// The halves of block j of the cut above are classed, the upper half being the part that begins in the block's middle.
+fn class_halves(
+    table: &[i32],
+    size: usize,
+    j: usize,
+    above: &[i32],
+    count: usize,
+    classes: &mut [usize],
+    firsts: &mut [usize],
+) -> usize
+    requires { ⌜ HalvesRoom (now table) size j count (now classes) (now firsts) ⌝ }
+    ensures { λ r. ⌜ rowsOf r (now (classes .exit)) (now (firsts .exit)) ≡ halvesClassed (now (table .entry)) size j (now (above .entry)) (rowsOf count (now (classes .entry)) (now (firsts .entry))) ⌝ }
+{
+    let middle = above.len() / 2;
+    let lower = &above[..middle];
+    let upper = &above[middle..];
+    let known = class_block(table, size, 2 * j, lower, count, classes, firsts);
+    class_block(table, size, 2 * j + 1, upper, known, classes, firsts)
+}
+
+// The classes of a cut below another: its blocks are the halves of the blocks of the cut above, each a part of the table.
+fn class_below(table: &[i32], size: usize, classes: &mut [usize], firsts: &mut [usize]) -> usize
     requires { ⌜ CutRoom (now table) size (now classes) (now firsts) ⌝ }
+    requires { ⌜ (length (now classes) ≡ 1 → ⊥) ⌝ }
     ensures { λ r. ⌜ CutClassed (now (table .entry)) size (length (now (classes .entry))) r (now (classes .exit)) (now (firsts .exit)) ⌝ }
 {
     let mut count = 0;
     let mut j = 0;
-    while j < classes.len() {
-        let class = class_of_part(table, size, &firsts[..count], j);
-        classes[j] = class;
-        count = note_first(firsts, count, j, class);
+    while j < classes.len() / 2 {
+        let start = 2 * j * size;
+        let end = start + 2 * size;
+        count = class_halves(table, size, j, &table[start..end], count, classes, firsts);
         j += 1;
     }
     count
+}
+
+// The classes of a cut whose blocks have this size: each block's class, each class's first block, and the class count. Cut 0 has
+// one block, the table.
+fn class_cut(table: &[i32], size: usize, classes: &mut [usize], firsts: &mut [usize]) -> usize
+    requires { ⌜ CutRoom (now table) size (now classes) (now firsts) ⌝ }
+    ensures { λ r. ⌜ CutClassed (now (table .entry)) size (length (now (classes .entry))) r (now (classes .exit)) (now (firsts .exit)) ⌝ }
+{
+    if classes.len() == 1 {
+        return class_block(table, size, 0, table, 0, classes, firsts);
+    }
+    class_below(table, size, classes, firsts)
 }
 
 // The classes of cut h, at their places in the rows of all cuts.
@@ -148,10 +187,10 @@ fn class_cut_at(
     requires { ⌜ h ≤ n ⌝ }
     ensures { λ r. ⌜ CutPlaced n (now (table .entry)) h (now (classes .entry)) (now (firsts .entry)) r (now (classes .exit)) (now (firsts .exit)) ⌝ }
 {
-    let blocks = numbers::power(h);
+    let count = numbers::power(h);
     let size = numbers::power(n - h);
-    let start = blocks - 1;
-    let end = start + blocks;
+    let start = count - 1;
+    let end = start + count;
     class_cut(
         table,
         size,

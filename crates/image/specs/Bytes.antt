@@ -8,8 +8,8 @@ use mir.Val.{ofZ, toZ}
 
 -- So many bytes of a number, the highest first.
 unfoldable pub bigEndian : ℕ → ℕ → List ℕ
-bigEndian zero number = []
-bigEndian (suc count) number = number / 256 ^ count % 256 ∷ bigEndian count number
+bigEndian zero value = []
+bigEndian (suc count) value = value / 256 ^ count % 256 ∷ bigEndian count value
 
 -- A signed number of 4 bytes.
 unfoldable pub signedBytes : ℤ → List ℕ

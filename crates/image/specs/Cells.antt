@@ -1,16 +1,16 @@
--- What an image describes: variables, an offset, and cells of words, terms of the paper.
+-- What an image describes: variables, an offset, and cells of words.
 use Prim.Native.Nat.{ℕ}
 use mathlib.Core.List.{List, map}
 use lib.IntN.{ℤ}
 use Rattle.numbers.specs.Lists.{sumOf}
 use Rattle.numbers.specs.Widths.{cellBits}
 
--- A word of a memory: the outgoing class and the weight.
+-- A word (the paper's term): the outgoing class and the weight.
 pub record Word : Type 0 where
   pub class : ℕ
   pub weight : ℤ
 
--- A cell: its group's variables, both class counts, its weight width, and its words by incoming class, then group value.
+-- A cell (the paper's term): its group's variables, both class counts, its weight width, and its words by incoming class, then group value.
 pub record Cell : Type 0 where
   pub group : ℕ
   pub incoming : ℕ
@@ -18,7 +18,7 @@ pub record Cell : Type 0 where
   pub width : ℕ
   pub words : List Word
 
--- A card: what the bytes of an image stand for.
+-- A card: what the bytes of an image stand for. The offset is the paper's term.
 pub record Card : Type 0 where
   pub n : ℕ
   pub offset : ℤ

@@ -7,13 +7,14 @@ use Rattle.image.specs.Cells.{Word, Cell, Card, totalBits}
 use Rattle.image.specs.declared.Command.{Command}
 use Rattle.image.specs.declared.Command.the-variants as commands
 
--- The paper's command byte and operands for each case of the enum.
+-- A command (the paper's term): its byte and its operands, for each case of the enum.
 unfoldable pub commandBytes : Command → List ℕ
 commandBytes (commands.Table n offset) = 0x56 ∷ bigEndian 1 n ++ signedBytes offset
 commandBytes (commands.Cell group incoming outgoing width) = 0x43 ∷ bigEndian 1 group ++ bigEndian 2 incoming ++ bigEndian 2 outgoing ++ bigEndian 1 width
 commandBytes (commands.Word class weight) = 0x57 ∷ bigEndian 2 class ++ signedBytes weight
 commandBytes (commands.End bits) = 0x45 ∷ bigEndian 4 bits
 
+-- A word's command.
 unfoldable pub wordCommand : Word → Command
 wordCommand word = commands.Word (word .class) (word .weight)
 

@@ -9,6 +9,7 @@ pub mod Held
 pub mod Images
 pub mod Operands
 pub mod Reading
+pub mod Refusals
 pub mod Rules
 pub mod Running
 pub mod Standing

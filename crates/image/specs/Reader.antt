@@ -7,7 +7,7 @@ use lib.Dec.{leb, ltb, eqb}
 use lib.IntN.{pos}
 use Rattle.numbers.specs.Answers.{Answer, accepted, refused, unless, mapAnswer, andThen}
 use Rattle.numbers.specs.Ranges.{isVariables, isValue, isWeight, eqZ, lesser, greater, widestAddress}
-use Rattle.numbers.specs.Widths.{railWidth, weightWidth, cellBits}
+use Rattle.numbers.specs.Widths.{addressBits, weightWidth, cellBits}
 use Rattle.image.specs.Bytes.{unsignedAt, signedAt}
 use Rattle.image.specs.declared.Command.{Command}
 use Rattle.image.specs.declared.Command.the-variants.{Table, Cell, Word, End}
@@ -19,12 +19,14 @@ use Rattle.image.specs.declared.Step.the-variants.{Read, Refused}
 pub data Due : Type 0 where
   table cell word end : Due
 
+-- Words while some are left of the cell, then a cell while variables are left, and then the end.
 unfoldable pub due : Place → Due
 due p = elim (eqb (p .n) 0) [
   | true ↦ table
   | false ↦ elim (eqb (p .words) 0) [ false ↦ word | true ↦ elim (eqb (p .left) 0) [ false ↦ cell | true ↦ end ] ]
 ]
 
+-- The byte of a command.
 unfoldable pub dueByte : Due → ℕ
 dueByte table = 0x56
 dueByte cell = 0x43
@@ -57,7 +59,7 @@ keepsRules p (Cell group incoming outgoing width) =
     && eqb incoming (p .classes)
     && leb 1 outgoing && leb outgoing mostClasses
     && (ltb group (p .left) || eqb outgoing 1)
-    && leb (railWidth incoming + group) widestAddress
+    && leb (addressBits incoming group) widestAddress
 keepsRules p (Word class weight) =
     ltb class (p .classes) && isWeight weight && (not (eqb (p .words % 2 ^ p .group) 0) || eqZ weight (pos 0))
 keepsRules p (End bits) = eqb bits (p .bits)

@@ -24,7 +24,7 @@ pub record Result : Type 0 where
 unfoldable pub wordAt : Cell → ℕ → ℕ → Word
 wordAt cell class v = getD (cell .words) (class * 2 ^ cell .group + v) (record { class = 0; weight = pos 0 })
 
--- The bits of X that a group takes: the top ones of the variables left.
+-- Group value (the paper's term): the bits of X that a group takes, the top ones of the variables left.
 unfoldable pub groupValue : ℕ → ℕ → ℕ → ℕ
 groupValue left group x = x / 2 ^ (left - group) % 2 ^ group
 

@@ -1,18 +1,21 @@
 -- What holds of images, of Run and of Expand, for every image, card and X.
-use Prim.Native.Nat.{ℕ, _^_, _<_}
+use Prim.Native.Nat.{ℕ, _^_, _≤_, _<_}
 use mathlib.Core.Path.{_≡_, sym, _∙_}
 use mathlib.Core.List.{List, flatMap}
+use mathlib.Core.Logic.{_↔_}
 use lib.ListN.{length, getD}
 use lib.IntN.{ℤ, pos}
-use Rattle.numbers.specs.Answers.{accepted, mapAnswer}
+use Rattle.numbers.specs.Answers.{accepted, refused, mapAnswer}
 use Rattle.image.specs.Bytes.{AreBytes}
 use Rattle.image.specs.Cells.{Card}
 use Rattle.image.specs.Commands.{commandBytes, cardCommands, imageOf, cardOf}
 use Rattle.image.specs.Reader.{reading}
-use Rattle.image.specs.Run.{runCard, run, cardValues, expand}
+use Rattle.image.specs.Run.{runCard, run, cardValues, expand, expandBuffer}
 use Rattle.image.specs.WellFormed.{WellFormed}
 use Rattle.image.specs.Laws.Cards.{card-of}
 use Rattle.image.specs.Laws.Images.{image-of-commands, commands-of-card, image-of-card, card-keeps}
+use Rattle.image.specs.Laws.Refusals.{OfImage, reading-number, run-refuses, expand-refuses, buffer-accepted, buffer-refused}
+use Rattle.image.specs.Laws.Running.{run-refused, expand-refused}
 use Rattle.image.specs.Laws.Words.{card-words, run-of-card, expand-entry}
 use Rattle.image.specs.Laws.Written.{image-read, image-run, image-expand}
 use Rattle.image.specs.declared.Command.{Command}
@@ -20,10 +23,6 @@ use Rattle.image.specs.declared.Command.{Command}
 -- ---- an accepted image
 
 module _ (image : List ℕ) (commands : List Command) (h : reading image ≡ accepted commands) where
-  -- It has no other reading.
-  pub one-reading : (others : List Command) → reading image ≡ accepted others → commands ≡ others
-  one-reading others g = cc
-
   -- It is made of its commands' bytes.
   pub accepted-bytes : AreBytes image → image ≡ flatMap commandBytes commands
   accepted-bytes = image-of-commands image commands h
@@ -46,7 +45,35 @@ module _ (image : List ℕ) (commands : List Command) (h : reading image ≡ acc
 pub same-commands : (first second : List ℕ) (commands : List Command) → AreBytes first → AreBytes second → reading first ≡ accepted commands → reading second ≡ accepted commands → first ≡ second
 same-commands first second commands f s p q = image-of-commands first commands p f ∙ sym (image-of-commands second commands q s)
 
+-- ---- refusals
+
+-- An image is refused with 11, 12, 13 or 14, and Run and Expand hand that on.
+pub image-refused : (image : List ℕ) (k : ℕ) → reading image ≡ refused k → (11 ≤ k) × (k ≤ 14)
+unfolding OfImage
+image-refused = reading-number
+
+pub run-hands-on : (image : List ℕ) (k : ℕ) → reading image ≡ refused k → (x : ℕ) → run image x ≡ refused k
+run-hands-on image k h x = run-refused image x k h
+
+pub expand-hands-on : (image : List ℕ) (k : ℕ) → reading image ≡ refused k → (room : ℕ) → expand image room ≡ refused k
+expand-hands-on image k h room = expand-refused image room k h
+
+-- Run answers 7 exactly where the image is accepted and X is not below 2^n.
+pub run-turns-x-away : (image : List ℕ) (x : ℕ) → (run image x ≡ refused 7) ↔ ((commands : List Command) × ((reading image ≡ accepted commands) × (2 ^ cardOf commands .n ≤ x)))
+run-turns-x-away = run-refuses
+
+-- Expand answers 2 exactly where the image is accepted and the buffer's length is not 2^n.
+pub expand-turns-length-away : (image : List ℕ) (room : ℕ) → (expand image room ≡ refused 2) ↔ ((commands : List Command) × ((reading image ≡ accepted commands) × (room ≡ 2 ^ cardOf commands .n → ⊥)))
+expand-turns-length-away = expand-refuses
+
 -- ---- Expand
+
+-- An accepted Expand leaves exactly its values in the buffer, a refused one leaves the buffer as it was.
+pub expand-writes : (image : List ℕ) (buffer values : List ℤ) → expand image (length buffer) ≡ accepted values → expandBuffer image buffer ≡ values
+expand-writes = buffer-accepted
+
+pub expand-leaves : (image : List ℕ) (buffer : List ℤ) (k : ℕ) → expand image (length buffer) ≡ refused k → expandBuffer image buffer ≡ buffer
+expand-leaves = buffer-refused
 
 -- Expand's entry X is Run's value at X.
 pub expand-is-run : (image : List ℕ) (room : ℕ) (values : List ℤ) → expand image room ≡ accepted values → (x : ℕ) → x < length values → mapAnswer (λ result. result .value) (run image x) ≡ accepted (getD values x (pos 0))

@@ -1,12 +1,12 @@
 -- Cards that keep the paper's rules: what the reader admits, said of cells and words instead of bytes.
-use Prim.Native.Nat.{ℕ, _+_, _-_, _*_, _%_, _^_, _≤_, _<_}
+use Prim.Native.Nat.{ℕ, _-_, _*_, _%_, _^_, _≤_, _<_}
 use mathlib.Core.Path.{_≡_}
 use mathlib.Core.Bool.{true}
 use mathlib.Core.List.{List, [], _∷_, map}
 use lib.ListN.{length, getD}
 use lib.IntN.{ℤ, pos}
 use Rattle.numbers.specs.Ranges.{isVariables, isValue, isWeight, widestAddress}
-use Rattle.numbers.specs.Widths.{railWidth, weightWidth}
+use Rattle.numbers.specs.Widths.{addressBits, weightWidth}
 use Rattle.image.specs.Cells.{Word, Cell, Card}
 use Rattle.image.specs.Reader.{mostClasses}
 
@@ -14,18 +14,19 @@ use Rattle.image.specs.Reader.{mostClasses}
 unfoldable pub noWord : Word
 noWord = record { class = 0; weight = pos 0 }
 
+-- The weights of a cell's words.
 unfoldable pub weights : List Word → List ℤ
 weights words = map (λ word. word .weight) words
 
 -- The numbers of a cell that begins with so many variables left and so many classes.
 pub record KeepsShape (left classes group incoming outgoing : ℕ) : Type 0 where
   pub some : 1 ≤ group
-  pub within : group ≤ left
+  pub inside : group ≤ left
   pub joined : incoming ≡ classes
   pub leaving : 1 ≤ outgoing
   pub most : outgoing ≤ mostClasses
   pub last : group ≡ left → outgoing ≡ 1
-  pub address : railWidth incoming + group ≤ widestAddress
+  pub address : addressBits incoming group ≤ widestAddress
 
 -- A word whose place in its cell has this group value.
 pub record KeepsWord (outgoing value : ℕ) (word : Word) : Type 0 where

@@ -2,16 +2,17 @@
 ghost use mathlib.Core.Path.{_≡_};
 ghost use Prim.Native.Nat.{_+_, _≤_, _<_};
 ghost use lib.ListN.{length};
-ghost use Rattle.image.specs.Inner.Evaluation.{Accepted, cardRead, resultOf, firstWalk, wordPlace, cellRead, CellAhead};
+ghost use Rattle.image.specs.Inner.Evaluation.{Accepted, cardRead, resultOf, firstProgress, wordPlace, cellRead, CellAhead};
 ghost use Rattle.image.specs.Run.{groupValue, runCard};
-use crate::Walk;
+use crate::Evaluated;
+use crate::Progress;
 use crate::operands;
 
-pub(crate) fn first_walk(image: &[u8]) -> Walk
+pub(crate) fn first_progress(image: &[u8]) -> Progress
     requires { ⌜ 6 ≤ length (now image) ⌝ }
-    ensures { λ r. ⌜ r ≡ firstWalk (now (image .entry)) ⌝ }
+    ensures { λ r. ⌜ r ≡ firstProgress (now (image .entry)) ⌝ }
 {
-    Walk {
+    Progress {
         at: 6,
         left: operands::read_one(image, 1),
         class: 0,
@@ -28,46 +29,49 @@ pub(crate) fn group_value(left: usize, group: usize, x: usize) -> usize
     x / (1 << (left - group)) % (1 << group)
 }
 
-pub(crate) fn word_place(image: &[u8], x: usize, walk: Walk) -> usize
-    requires { ⌜ CellAhead (now image) x walk ⌝ }
-    ensures { λ r. ⌜ r ≡ wordPlace (now (image .entry)) x walk ⌝ }
+pub(crate) fn word_place(image: &[u8], x: usize, progress: Progress) -> usize
+    requires { ⌜ CellAhead (now image) x progress ⌝ }
+    ensures { λ r. ⌜ r ≡ wordPlace (now (image .entry)) x progress ⌝ }
 {
-    let at = walk.at;
+    let at = progress.at;
     let group = operands::read_one(image, at + 1);
-    let v = group_value(walk.left, group, x);
-    at + 7 + 7 * (walk.class * (1 << group) + v)
+    let v = group_value(progress.left, group, x);
+    at + 7 + 7 * (progress.class * (1 << group) + v)
 }
 
 // One word of the cell ahead is read, at its place.
-pub(crate) fn read_cell(image: &[u8], x: usize, walk: Walk) -> Walk
-    requires { ⌜ CellAhead (now image) x walk ⌝ }
-    ensures { λ r. ⌜ r ≡ cellRead (now (image .entry)) x walk ⌝ }
+pub(crate) fn read_cell(image: &[u8], x: usize, progress: Progress) -> Progress
+    requires { ⌜ CellAhead (now image) x progress ⌝ }
+    ensures { λ r. ⌜ r ≡ cellRead (now (image .entry)) x progress ⌝ }
 {
-    let at = walk.at;
+    let at = progress.at;
     let group = operands::read_one(image, at + 1);
     let incoming = operands::read_two(image, at + 2);
-    let word = word_place(image, x, walk);
+    let word = word_place(image, x, progress);
     let class = operands::read_two(image, word + 1);
     let weight = operands::read_signed(image, word + 3);
-    Walk {
+    Progress {
         at: at + 7 + 7 * (incoming * (1 << group)),
-        left: walk.left - group,
+        left: progress.left - group,
         class,
-        value: walk.value + weight,
-        words: walk.words + 1,
+        value: progress.value + weight,
+        words: progress.words + 1,
     }
 }
 
 // The card's answer at X, from the words in place.
-pub(crate) fn evaluate(image: &[u8], x: usize) -> Walk
+pub(crate) fn evaluate(image: &[u8], x: usize) -> Evaluated
     requires { ⌜ Accepted (now image) ⌝ }
     ensures { λ r. ⌜ resultOf r ≡ runCard (cardRead (now (image .entry))) x ⌝ }
 {
-    let mut walk = first_walk(image);
-    while 0 < walk.left {
-        walk = read_cell(image, x, walk);
+    let mut progress = first_progress(image);
+    while 0 < progress.left {
+        progress = read_cell(image, x, progress);
     }
-    walk
+    Evaluated {
+        value: progress.value,
+        words: progress.words,
+    }
 }
 
 // The number of variables of an accepted image.

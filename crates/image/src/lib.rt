@@ -92,10 +92,16 @@ enum Checked {
 }
 
 // Where evaluation stands: the next cell, the variables left, the class, and what the cells so far gave.
-struct Walk {
+struct Progress {
     at: usize,
     left: usize,
     class: usize,
+    value: i32,
+    words: usize,
+}
+
+// What evaluation gives: the value, and the words read for it.
+struct Evaluated {
     value: i32,
     words: usize,
 }
@@ -107,10 +113,10 @@ fn run_accepted(image: &[u8], x: usize) -> Ran
     if (1 << evaluation::variables(image)) <= x {
         return Ran::Refused(7);
     }
-    let walk = evaluation::evaluate(image, x);
+    let evaluated = evaluation::evaluate(image, x);
     Ran::Value {
-        value: walk.value,
-        words: walk.words,
+        value: evaluated.value,
+        words: evaluated.words,
     }
 }
 
@@ -130,8 +136,8 @@ fn fill(image: &[u8], table: &mut [i32])
 {
     let mut x = 0;
     while x < table.len() {
-        let walk = evaluation::evaluate(image, x);
-        let value = walk.value;
+        let evaluated = evaluation::evaluate(image, x);
+        let value = evaluated.value;
         table[x] = value;
         x += 1;
     }

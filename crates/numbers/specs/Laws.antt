@@ -1,4 +1,5 @@
 -- Laws about the definitions of this crate, which proofs cite.
+pub mod Answers
 pub mod BitLength
 pub mod Bools
 pub mod Bounds

@@ -9,18 +9,19 @@ use lib.Signed.{leZ}
 unfoldable pub mostVariables : ℕ
 mostVariables = 12
 
--- The widest address of a memory.
+-- The widest address of a cell.
 unfoldable pub widestAddress : ℕ
 widestAddress = 12
 
--- n, the number of variables: 1 to 12.
+-- n (the paper's term), the number of variables: 1 to 12.
 unfoldable pub isVariables : ℕ → Bool
 isVariables n = leb 1 n && leb n mostVariables
 
--- A, the address limit: 1 to 12.
+-- A, the address limit (the paper's term): 1 to 12.
 unfoldable pub isLimit : ℕ → Bool
 isLimit limit = leb 1 limit && leb limit widestAddress
 
+-- An integer from low to high, both included.
 unfoldable pub within : ℤ → ℤ → ℤ → Bool
 within low high z = leZ low z && leZ z high
 
@@ -28,7 +29,7 @@ within low high z = leZ low z && leZ z high
 unfoldable pub isValue : ℤ → Bool
 isValue z = within (negℤ (pos 8388608)) (pos 8388607) z
 
--- A weight of a record list or an image: within ±16,777,215, the greatest difference of two values.
+-- A weight (the paper's term) of a record list or an image: within ±16,777,215, the greatest difference of two values.
 unfoldable pub isWeight : ℤ → Bool
 isWeight z = within (negℤ (pos 16777215)) (pos 16777215) z
 

@@ -1,4 +1,4 @@
--- The two widths of a cell: rail width and weight width, terms of the paper.
+-- The widths of a cell, and its cost in memory bits.
 use Prim.Native.Nat.{ℕ, zero, suc, _+_, _-_, _*_, _^_, max}
 use mathlib.Core.Bool.{Bool}
 use mathlib.Core.List.{List, [], _∷_}
@@ -26,6 +26,10 @@ enough (z ∷ weights) = max (suc (mag z)) (enough weights)
 unfoldable pub weightWidth : List ℤ → ℕ
 weightWidth weights = least (λ a. every (holds a) weights) (enough weights)
 
--- The memory bits of a cell: a word for each address, a class and a weight in each word.
+-- Address width of a cell (the paper's term): the incoming rail width and the group's variables.
+abbrev pub addressBits : ℕ → ℕ → ℕ
+addressBits incoming group = railWidth incoming + group
+
+-- Memory bits of a cell (the paper's term), its cost: a word for each address, a class and a weight in each word.
 unfoldable pub cellBits : ℕ → ℕ → ℕ → ℕ → ℕ
-cellBits incoming group outgoing width = 2 ^ (railWidth incoming + group) * (railWidth outgoing + width)
+cellBits incoming group outgoing width = 2 ^ addressBits incoming group * (railWidth outgoing + width)

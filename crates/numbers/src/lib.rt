@@ -3,15 +3,15 @@ ghost use mathlib.Core.Path.{_≡_};
 ghost use mathlib.Core.List.{[], _∷_};
 ghost use Prim.Native.Nat.{_^_, _<_};
 ghost use lib.Signed.{mag};
-ghost use Rattle.numbers.specs.Ranges.{isVariables, within, lesser, greater};
+ghost use Rattle.numbers.specs.Ranges.{isVariables, isLimit, within, lesser, greater};
 ghost use Rattle.numbers.specs.Inner.Bits.{bitLength};
 ghost use Rattle.numbers.specs.Widths.{railWidth, weightWidth};
 
-// The number of bits of a magnitude.
-pub fn bit_length(magnitude: u32) -> usize
-    ensures { λ r. ⌜ r ≡ bitLength magnitude ⌝ }
+// The number of bits of a number.
+pub fn bit_length(number: u32) -> usize
+    ensures { λ r. ⌜ r ≡ bitLength number ⌝ }
 {
-    (32 - u32::leading_zeros(magnitude)) as usize
+    (32 - u32::leading_zeros(number)) as usize
 }
 
 // The rail width of so many classes.
@@ -68,6 +68,16 @@ pub fn is_variables(n: usize) -> bool
         return false;
     }
     n <= 12
+}
+
+// Whether a number is an address limit.
+pub fn is_limit(limit: usize) -> bool
+    ensures { λ r. ⌜ r ≡ isLimit limit ⌝ }
+{
+    if limit < 1 {
+        return false;
+    }
+    limit <= 12
 }
 
 // Whether a number lies within a range.

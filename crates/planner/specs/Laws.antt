@@ -2,7 +2,6 @@
 pub mod Choosing
 pub mod Leading
 pub mod Listed
-pub mod Padding
 pub mod Plans
 pub mod Pricing
 pub mod Rows

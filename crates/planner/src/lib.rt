@@ -24,7 +24,7 @@ pub fn plan_in(
     match diagram::tables::check_table(n, table) {
         diagram::Checked::Refused(number) => planning::refused_plan(number),
         diagram::Checked::Passed => {
-            if !planning::is_limit(limit) {
+            if !numbers::is_limit(limit) {
                 return planning::refused_plan(8);
             }
             planning::plan_rows(n, table, limit, classes, firsts, counts)

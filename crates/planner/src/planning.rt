@@ -14,16 +14,6 @@ use cascade::Choice;
 use cascade::Planned;
 use cascade::Verdict;
 
-// Whether a number is an address limit.
-pub(crate) fn is_limit(limit: usize) -> bool
-    ensures { λ r. ⌜ r ≡ isLimit limit ⌝ }
-{
-    if limit < 1 {
-        return false;
-    }
-    limit <= 12
-}
-
 // The number of a refusal beside arrays of 0.
 pub(crate) fn refused_plan(number: u8) -> Planned
     ensures { λ r. ⌜ r ≡ refusedPlan number ⌝ }

@@ -33,7 +33,7 @@ mul-counts c = fits-of-lt (let s = small (c .before .before .before .before .bef
 slice-write-counts : tie.Need-slice-write-counts Inv-loop μ-loop
 slice-write-counts c =
     let l = c .before .before .before .before .before .before .before .loop-test .taken in
-    let r = c .before .before .before .before .before .before .before .before .loop .inv .countRow in
+    let r = c .before .before .before .before .before .before .before .before .loop .inv .countPlaces in
     omega arith
 
 add-h : tie.Need-add-h Inv-loop μ-loop
@@ -51,13 +51,13 @@ loop-again c =
     cuts-next (a .n) (a .table .now) (v .h) (v .classes) (v .firsts) (v .counts) (v .inv) (i .loop-test .taken) (k .result) (k .last .1 .1 .1 .0) (k .last .1 .1 .1 .1 .0) (k .ensures)
 
 same-length : tie.Need-same-length Inv-loop μ-loop
-same-length c = c .before .loop .inv .rows .classRow ∙ sym (c .before .before .before .before .before .pre .0 .classRow)
+same-length c = c .before .loop .inv .rows .classPlaces ∙ sym (c .before .before .before .before .before .pre .0 .classPlaces)
 
 same-length-2 : tie.Need-same-length-2 Inv-loop μ-loop
-same-length-2 c = c .before .loop .inv .rows .firstRow ∙ sym (c .before .before .before .before .before .pre .0 .firstRow)
+same-length-2 c = c .before .loop .inv .rows .firstPlaces ∙ sym (c .before .before .before .before .before .pre .0 .firstPlaces)
 
 same-length-3 : tie.Need-same-length-3 Inv-loop μ-loop
-same-length-3 c = c .before .loop .inv .countRow ∙ sym (c .before .before .before .before .before .pre .1)
+same-length-3 c = c .before .loop .inv .countPlaces ∙ sym (c .before .before .before .before .before .pre .1)
 
 returns : tie.Need-returns Inv-loop μ-loop
 returns c =

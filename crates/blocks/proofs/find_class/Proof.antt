@@ -28,7 +28,7 @@ shared-slice-read-same-part : tie.Need-shared-slice-read-same-part Inv-loop μ-l
 shared-slice-read-same-part c = let l = c .before .if1 .left in let w = c .before .before .loop .inv .0 in omega arith
 
 same-part-requires : tie.Need-same-part-requires Inv-loop μ-loop
-same-part-requires c κs = c .before .before .before .before .pre .within (c .before .before .loop .k) (let l = c .before .if1 .left in let w = c .before .before .loop .inv .0 in omega arith)
+same-part-requires c κs = c .before .before .before .before .pre .inside (c .before .before .loop .k) (let l = c .before .if1 .left in let w = c .before .before .loop .inv .0 in omega arith)
 
 -- What the test of class k says of its differences.
 tested : (c : tie.After-same-part Inv-loop μ-loop) → c .before .before .before .loop .k < length (c .before .before .before .before .before .args .firsts .now)

@@ -18,18 +18,18 @@ use Rattle.blocks.specs.Inner.Layout.{cutNumbers, cutFirsts, allNumbers,
 use Rattle.blocks.specs.Laws.Cuts.{length-cut-numbers, length-cut-firsts, cut-end, cut-within}
 
 -- The rows while the cuts before h are classed.
-pub record CutsSoFar (n : ℕ) (table : List ℤ) (h : ℕ) (classes firsts counts : List ℕ) : Type 0 where
+pub record CutsSoFar (n : ℕ) (table : List ℤ) (h : ℕ) (classRow firstRow countRow : List ℕ) : Type 0 where
   pub inside : h ≤ suc n
-  pub rows : CutsRoom n table classes firsts
-  pub countRow : length counts ≡ suc n
-  pub numbered : take (cutPlace h) classes ≡ flatMap (cutNumbers n table) (numbersFrom 0 h)
-  pub placed : take (cutPlace h) firsts ≡ flatMap (cutFirsts n table) (numbersFrom 0 h)
-  pub counted : take h counts ≡ map (classCount n table) (numbersFrom 0 h)
+  pub rows : CutsRoom n table classRow firstRow
+  pub countPlaces : length countRow ≡ suc n
+  pub numbered : take (cutPlace h) classRow ≡ flatMap (cutNumbers n table) (numbersFrom 0 h)
+  pub placed : take (cutPlace h) firstRow ≡ flatMap (cutFirsts n table) (numbersFrom 0 h)
+  pub counted : take h countRow ≡ map (classCount n table) (numbersFrom 0 h)
 
-pub no-cut : (n : ℕ) (table : List ℤ) (classes firsts counts : List ℕ) → CutsRoom n table classes firsts → length counts ≡ suc n → CutsSoFar n table 0 classes firsts counts
+pub no-cut : (n : ℕ) (table : List ℤ) (classRow firstRow countRow : List ℕ) → CutsRoom n table classRow firstRow → length countRow ≡ suc n → CutsSoFar n table 0 classRow firstRow countRow
 unfolding cutPlace numbersFrom flatMap
-no-cut n table classes firsts counts rows e =
-    record { inside = omega arith; rows = rows; countRow = e; numbered = refl; placed = refl; counted = refl }
+no-cut n table classRow firstRow countRow rows e =
+    record { inside = omega arith; rows = rows; countPlaces = e; numbered = refl; placed = refl; counted = refl }
 
 -- A run of lists and one more.
 one-more : (f : ℕ → List ℕ) (h : ℕ) → flatMap f (numbersFrom 0 h) ++ f h ≡ flatMap f (numbersFrom 0 (suc h))
@@ -50,34 +50,34 @@ row-grows n h f row cut l e s =
 row-stays : (n h : ℕ) (new row : List ℕ) → h ≤ n → length new ≡ 2 ^ h → length row ≡ cutPlace (suc n) → length (overwritten row (cutPlace h) new) ≡ cutPlace (suc n)
 row-stays n h new row cut l e = length-overwritten row (cutPlace h) new (let w = cut-within n h cut in omega arith) ∙ e
 
-module _ (n : ℕ) (table : List ℤ) (h : ℕ) (classes firsts counts : List ℕ) (s : CutsSoFar n table h classes firsts counts) (cut : h ≤ n) where
+module _ (n : ℕ) (table : List ℤ) (h : ℕ) (classRow firstRow countRow : List ℕ) (s : CutsSoFar n table h classRow firstRow countRow) (cut : h ≤ n) where
   -- One cut more.
-  pub cuts-next : (count : ℕ) (classes′ firsts′ : List ℕ) → CutPlaced n table h classes firsts count classes′ firsts′ → CutsSoFar n table (h + 1) classes′ firsts′ (set counts h count)
-  cuts-next count classes′ firsts′ p =
-      subst (λ k. CutsSoFar n table k classes′ firsts′ (set counts h count)) (sym (add-one h))
+  pub cuts-next : (count : ℕ) (classRow′ firstRow′ : List ℕ) → CutPlaced n table h classRow firstRow count classRow′ firstRow′ → CutsSoFar n table (h + 1) classRow′ firstRow′ (set countRow h count)
+  cuts-next count classRow′ firstRow′ p =
+      subst (λ k. CutsSoFar n table k classRow′ firstRow′ (set countRow h count)) (sym (add-one h))
       (record {
         inside = omega arith;
         rows = record {
           variables = s .rows .variables;
           whole = s .rows .whole;
-          classRow = ap length (p .numbered) ∙ row-stays n h (cutNumbers n table h) classes cut (length-cut-numbers n h cut table) (s .rows .classRow);
-          firstRow = ap length (p .placed) ∙ row-stays n h (cutFirsts n table h) firsts cut (length-cut-firsts n h cut table) (s .rows .firstRow);
+          classPlaces = ap length (p .numbered) ∙ row-stays n h (cutNumbers n table h) classRow cut (length-cut-numbers n h cut table) (s .rows .classPlaces);
+          firstPlaces = ap length (p .placed) ∙ row-stays n h (cutFirsts n table h) firstRow cut (length-cut-firsts n h cut table) (s .rows .firstPlaces);
         };
-        countRow = length-set counts h count ∙ s .countRow;
-        numbered = ap (take (cutPlace (suc h))) (p .numbered) ∙ row-grows n h (cutNumbers n table) classes cut (length-cut-numbers n h cut table) (s .rows .classRow) (s .numbered);
-        placed = ap (take (cutPlace (suc h))) (p .placed) ∙ row-grows n h (cutFirsts n table) firsts cut (length-cut-firsts n h cut table) (s .rows .firstRow) (s .placed);
+        countPlaces = length-set countRow h count ∙ s .countPlaces;
+        numbered = ap (take (cutPlace (suc h))) (p .numbered) ∙ row-grows n h (cutNumbers n table) classRow cut (length-cut-numbers n h cut table) (s .rows .classPlaces) (s .numbered);
+        placed = ap (take (cutPlace (suc h))) (p .placed) ∙ row-grows n h (cutFirsts n table) firstRow cut (length-cut-firsts n h cut table) (s .rows .firstPlaces) (s .placed);
         counted =
-            take-suc-set counts h count (let r = s .countRow in omega arith)
+            take-suc-set countRow h count (let r = s .countPlaces in omega arith)
             ∙ ap₂ (λ l k. l ++ k ∷ []) (s .counted) (p .counted)
             ∙ sym (map-append (classCount n table) (numbersFrom 0 h) (h ∷ []))
             ∙ ap (map (classCount n table)) (ap (λ k. numbersFrom 0 h ++ k ∷ []) (sym (zero-add h)) ∙ sym (range-suc 0 h));
       })
 
 -- When all cuts are classed, the rows are whole.
-pub cuts-done : (n : ℕ) (table : List ℤ) (classes firsts counts : List ℕ) → CutsSoFar n table (suc n) classes firsts counts → AllClassed n table classes firsts counts
+pub cuts-done : (n : ℕ) (table : List ℤ) (classRow firstRow countRow : List ℕ) → CutsSoFar n table (suc n) classRow firstRow countRow → AllClassed n table classRow firstRow countRow
 unfolding allNumbers allFirsts allCounts
-cuts-done n table classes firsts counts s = record {
-  numbered = sym (ap (λ k. take k classes) (sym (s .rows .classRow)) ∙ take-length classes) ∙ s .numbered;
-  placed = sym (ap (λ k. take k firsts) (sym (s .rows .firstRow)) ∙ take-length firsts) ∙ s .placed;
-  counted = sym (ap (λ k. take k counts) (sym (s .countRow)) ∙ take-length counts) ∙ s .counted;
+cuts-done n table classRow firstRow countRow s = record {
+  numbered = sym (ap (λ k. take k classRow) (sym (s .rows .classPlaces)) ∙ take-length classRow) ∙ s .numbered;
+  placed = sym (ap (λ k. take k firstRow) (sym (s .rows .firstPlaces)) ∙ take-length firstRow) ∙ s .placed;
+  counted = sym (ap (λ k. take k countRow) (sym (s .countPlaces)) ∙ take-length countRow) ∙ s .counted;
 }

@@ -2,11 +2,11 @@
 use Prim.Native.Nat.{ℕ, _+_, _*_, _≤_, _<_}
 use mathlib.Core.Path.{_≡_, refl, sym, _∙_, ap, ap₂, subst}
 use mathlib.Core.List.{List, [], map}
-use native.Mathlib.Nat.{zero-add, suc-mul, mul-le-mul-right}
+use native.Mathlib.Nat.{zero-add, one-mul, zero-mul, suc-mul, mul-le-mul-right}
 use native.Mathlib.Numerals.{add-one}
 use native.Mathlib.Omega.{arith}
-use lib.ListN.{length, getD, take, set, length-map, length-set}
-use lib.Seq.{ext-getD, getD-take, length-take-le}
+use lib.ListN.{length, getD, take, drop, set, length-map, length-set}
+use lib.Seq.{ext-getD, getD-take, length-take-le, take-length}
 use lib.Dec.{eqb}
 use lib.IntN.{ℤ}
 use Rattle.numbers.specs.Laws.Bools.{yes-or-no}
@@ -14,60 +14,64 @@ use Rattle.numbers.specs.Lists.{numbersFrom}
 use Rattle.numbers.specs.Laws.Lists.{length-range, getD-range, getD-map}
 use Rattle.blocks.specs.Blocks.{differences}
 use Rattle.blocks.specs.Classes.{numberIn, distinct}
-use Rattle.blocks.specs.Inner.Layout.{part, partDifferences, PartsWithin, CutRoom, CutClassed, countNoted, firstsNoted, firstsOf}
+use Rattle.blocks.specs.Inner.Layout.{part, partDifferences, Rows, rowsOf, BlockRoom, knownClass, blockClassed, CutRoom, CutClassed, countNoted, firstsNoted, firstsOf}
 use Rattle.blocks.specs.Laws.Known.{number-at, number-by, Among, distinct-seen}
 use Rattle.blocks.specs.Laws.Searching.{length-parts, part-at}
 use Rattle.blocks.specs.Laws.Classing.{Classed, none-classed, before-length, classed-next, known-places, all-classed}
 
 -- The differences of all blocks of a cut.
 abbrev pub cutLists : List ℤ → ℕ → ℕ → List (List ℤ)
-cutLists table size blocks = partDifferences table size (numbersFrom 0 blocks)
+cutLists table size count = partDifferences table size (numbersFrom 0 count)
 
-pub length-cut-lists : (table : List ℤ) (size blocks : ℕ) → length (cutLists table size blocks) ≡ blocks
-length-cut-lists table size blocks = length-parts table size (numbersFrom 0 blocks) ∙ length-range 0 blocks
+pub length-cut-lists : (table : List ℤ) (size count : ℕ) → length (cutLists table size count) ≡ count
+length-cut-lists table size count = length-parts table size (numbersFrom 0 count) ∙ length-range 0 count
 
-pub cut-list-at : (table : List ℤ) (size blocks j : ℕ) → j < blocks → getD (cutLists table size blocks) j [] ≡ differences (part table size j)
-cut-list-at table size blocks j h =
-    part-at table size (numbersFrom 0 blocks) j (rw length-range h)
-    ∙ ap (λ k. differences (part table size k)) (getD-range 0 blocks j 0 h ∙ zero-add j)
+pub cut-list-at : (table : List ℤ) (size count j : ℕ) → j < count → getD (cutLists table size count) j [] ≡ differences (part table size j)
+cut-list-at table size count j h =
+    part-at table size (numbersFrom 0 count) j (rw length-range h)
+    ∙ ap (λ k. differences (part table size k)) (getD-range 0 count j 0 h ∙ zero-add j)
 
 -- The rows while j blocks are classed.
-pub record CutSoFar (table : List ℤ) (size blocks j count : ℕ) (classes firsts : List ℕ) : Type 0 where
-  pub inside : j ≤ blocks
-  pub classRow : length classes ≡ blocks
-  pub firstRow : length firsts ≡ blocks
-  pub classed : Classed (cutLists table size blocks) j count classes firsts
+pub record CutSoFar (table : List ℤ) (size count j : ℕ) (rows : Rows) : Type 0 where
+  pub inside : j ≤ count
+  pub classPlaces : length (rows .classRow) ≡ count
+  pub firstPlaces : length (rows .firstRow) ≡ count
+  pub classed : Classed (cutLists table size count) j (rows .known) (rows .classRow) (rows .firstRow)
 
-pub length-noted : (firsts : List ℕ) (count j class : ℕ) → length (firstsNoted firsts count j class) ≡ length firsts
+pub length-noted : (firstRow : List ℕ) (known j class : ℕ) → length (firstsNoted firstRow known j class) ≡ length firstRow
 unfolding firstsNoted
-length-noted firsts count j class =
-    yes-or-no (eqb class count)
+length-noted firstRow known j class =
+    yes-or-no (eqb class known)
     (λ e. rw e (simp length-set))
     (λ e. rw e (simp length-set))
 
-pub cut-start : (table : List ℤ) (size : ℕ) (classes firsts : List ℕ) → CutRoom table size classes firsts → CutSoFar table size (length classes) 0 0 classes firsts
-cut-start table size classes firsts room =
-    record { inside = omega arith; classRow = refl; firstRow = room .alike; classed = none-classed (cutLists table size (length classes)) classes firsts }
+-- No block is classed yet.
+pub cut-start : (table : List ℤ) (size : ℕ) (classRow firstRow : List ℕ) → CutRoom table size classRow firstRow → CutSoFar table size (length classRow) 0 (rowsOf 0 classRow firstRow)
+cut-start table size classRow firstRow room =
+    record { inside = omega arith; classPlaces = refl; firstPlaces = room .alike; classed = none-classed (cutLists table size (length classRow)) classRow firstRow }
 
-module _ (table : List ℤ) (size blocks j count : ℕ) (classes firsts : List ℕ) (s : CutSoFar table size blocks j count classes firsts) (below : j < blocks) where
+module _ {table : List ℤ} {size count j : ℕ} {rows : Rows} (s : CutSoFar table size count j rows) (below : j < count) where
   abbrev ds : List (List ℤ)
-  ds = cutLists table size blocks
+  ds = cutLists table size count
+
+  abbrev firsts : List ℕ
+  firsts = take (rows .known) (rows .firstRow)
 
   below-ds : j < length ds
   below-ds = rw length-cut-lists below
 
   -- No more classes are known than blocks were seen.
-  pub cut-few : count ≤ j
+  cut-few : rows .known ≤ j
   cut-few = let k = s .classed .known in let b = before-length ds j below-ds in omega arith
 
-  places : take count firsts ≡ map (numberIn ds) (distinct (take j ds))
-  places = known-places ds j count classes firsts (s .classed) cut-few
+  places : firsts ≡ map (numberIn ds) (distinct (take j ds))
+  places = known-places ds j (rows .known) (rows .classRow) (rows .firstRow) (s .classed) cut-few
 
-  known-count : length (distinct (take j ds)) ≡ length (take count firsts)
+  known-count : length (distinct (take j ds)) ≡ length firsts
   known-count = sym (ap length places ∙ length-map (distinct (take j ds)) (numberIn ds))
 
   -- Each known list stands at its first place.
-  known-at : (k : ℕ) → k < length (distinct (take j ds)) → (numberIn ds (getD (distinct (take j ds)) k []) < blocks) × (getD ds (numberIn ds (getD (distinct (take j ds)) k [])) [] ≡ getD (distinct (take j ds)) k [])
+  known-at : (k : ℕ) → k < length (distinct (take j ds)) → (numberIn ds (getD (distinct (take j ds)) k []) < count) × (getD ds (numberIn ds (getD (distinct (take j ds)) k [])) [] ≡ getD (distinct (take j ds)) k [])
   unfolding Among
   known-at k h =
       let a = distinct-seen (take j ds) k h in
@@ -78,46 +82,70 @@ module _ (table : List ℤ) (size blocks j count : ℕ) (classes firsts : List �
       let early = number-by ds d i stands in
       (omega arith, number-at ds d (rw length-cut-lists (omega arith)))
 
-  place-at : (k : ℕ) → k < length (take count firsts) → getD (take count firsts) k 0 ≡ numberIn ds (getD (distinct (take j ds)) k [])
+  place-at : (k : ℕ) → k < length firsts → getD firsts k 0 ≡ numberIn ds (getD (distinct (take j ds)) k [])
   place-at k h = ap (λ l. getD l k 0) places ∙ getD-map (numberIn ds) (distinct (take j ds)) k [] 0 (rw known-count h)
 
-  pub cut-parts : length table ≡ blocks * size → PartsWithin table size (take count firsts)
-  cut-parts whole = record {
-    within = λ k h.
-        let p = known-at k (rw known-count h) .0 in
-        let m = mul-le-mul-right size p in
-        rw (place-at k h) (omega (arith, suc-mul (numberIn ds (getD (distinct (take j ds)) k [])) size));
+  -- The known classes' first blocks lie within the table, and the next block has its place.
+  pub cut-block-room : length table ≡ count * size → BlockRoom table size j (rows .known) (rows .classRow) (rows .firstRow)
+  cut-block-room whole = record {
+    known = record {
+      inside = λ k h.
+          let p = known-at k (rw known-count h) .0 in
+          let m = mul-le-mul-right size p in
+          rw (place-at k h) (omega (arith, suc-mul (numberIn ds (getD (distinct (take j ds)) k [])) size));
+    };
+    few = cut-few;
+    inside = rw (s .classPlaces) below;
+    alike = s .firstPlaces ∙ sym (s .classPlaces);
   }
 
   -- The known classes are the different lists so far.
-  pub cut-known : partDifferences table size (take count firsts) ≡ distinct (take j ds)
+  cut-known : partDifferences table size firsts ≡ distinct (take j ds)
   cut-known =
-      ext-getD [] (partDifferences table size (take count firsts)) (distinct (take j ds))
-      (length-parts table size (take count firsts) ∙ sym known-count)
+      ext-getD [] (partDifferences table size firsts) (distinct (take j ds))
+      (length-parts table size firsts ∙ sym known-count)
       (λ k h.
-      let h′ : k < length (take count firsts) = rw length-parts at h in
+      let h′ : k < length firsts = rw length-parts at h in
       let a = known-at k (rw known-count h′) in
-      part-at table size (take count firsts) k h′
+      part-at table size firsts k h′
       ∙ ap (λ f. differences (part table size f)) (place-at k h′)
-      ∙ sym (cut-list-at table size blocks (numberIn ds (getD (distinct (take j ds)) k [])) (a .0))
+      ∙ sym (cut-list-at table size count (numberIn ds (getD (distinct (take j ds)) k [])) (a .0))
       ∙ a .1)
 
   -- One block more.
-  pub cut-next : (class : ℕ) → class ≡ numberIn (partDifferences table size (take count firsts)) (differences (part table size j)) → CutSoFar table size blocks (j + 1) (countNoted count class) (set classes j class) (firstsNoted firsts count j class)
-  cut-next class is = record {
-    inside = omega arith;
-    classRow = length-set classes j class ∙ s .classRow;
-    firstRow = length-noted firsts count j class ∙ s .firstRow;
-    classed =
-        subst (λ n. Classed ds n (countNoted count class) (set classes j class) (firstsNoted firsts count j class)) (sym (add-one j))
-        (classed-next ds j below-ds count classes firsts class (s .classed)
-        (is ∙ ap₂ numberIn cut-known (sym (cut-list-at table size blocks j below)))
-        (rw (s .classRow) below) (rw (s .firstRow) below));
-  }
+  pub cut-next : (values : List ℤ) → values ≡ part table size j → CutSoFar table size count (j + 1) (blockClassed table size j values rows)
+  unfolding blockClassed knownClass
+  cut-next values is =
+      let class = numberIn (partDifferences table size firsts) (differences values) in
+      record {
+        inside = omega arith;
+        classPlaces = length-set (rows .classRow) j class ∙ s .classPlaces;
+        firstPlaces = length-noted (rows .firstRow) (rows .known) j class ∙ s .firstPlaces;
+        classed =
+            subst (λ n. Classed ds n (countNoted (rows .known) class) (set (rows .classRow) j class) (firstsNoted (rows .firstRow) (rows .known) j class)) (sym (add-one j))
+            (classed-next ds j below-ds (rows .known) (rows .classRow) (rows .firstRow) class (s .classed)
+            (ap₂ numberIn cut-known (ap differences is ∙ sym (cut-list-at table size count j below)))
+            (rw (s .classPlaces) below) (rw (s .firstPlaces) below));
+      }
 
-pub cut-done : (table : List ℤ) (size blocks count : ℕ) (classes firsts : List ℕ) → CutSoFar table size blocks blocks count classes firsts → CutClassed table size blocks count classes firsts
-cut-done table size blocks count classes firsts s =
-    let ds = cutLists table size blocks in
-    let l = length-cut-lists table size blocks in
-    let a = all-classed ds count classes firsts (s .classRow ∙ sym l) (s .firstRow ∙ sym l) (subst (λ n. Classed ds n count classes firsts) (sym l) (s .classed)) in
+pub cut-done : (table : List ℤ) (size count : ℕ) (rows : Rows) → CutSoFar table size count count rows → CutClassed table size count (rows .known) (rows .classRow) (rows .firstRow)
+cut-done table size count rows s =
+    let ds = cutLists table size count in
+    let l = length-cut-lists table size count in
+    let a = all-classed ds (rows .known) (rows .classRow) (rows .firstRow) (s .classPlaces ∙ sym l) (s .firstPlaces ∙ sym l) (subst (λ n. Classed ds n (rows .known) (rows .classRow) (rows .firstRow)) (sym l) (s .classed)) in
     record { counted = a .0; numbered = a .1 .0; placed = a .1 .1 ∙ ap (λ n. firstsOf n ds) l }
+
+-- A cut of one block, the table.
+pub one-block : (table : List ℤ) (size : ℕ) (classRow firstRow : List ℕ) → CutRoom table size classRow firstRow → length classRow ≡ 1 → (rows : Rows) → rows ≡ blockClassed table size 0 table (rowsOf 0 classRow firstRow) → CutClassed table size (length classRow) (rows .known) (rows .classRow) (rows .firstRow)
+unfolding part
+one-block table size classRow firstRow room one rows is =
+    cut-done table size (length classRow) rows
+    (subst (λ r. CutSoFar table size (length classRow) (length classRow) r) (sym is)
+    (subst (λ k. CutSoFar table size (length classRow) k (blockClassed table size 0 table (rowsOf 0 classRow firstRow))) (sym one)
+    (cut-next (cut-start table size classRow firstRow room) (omega arith) table whole)))
+  where
+    whole : table ≡ take size (drop (0 * size) table)
+    whole =
+        sym (take-length table)
+        ∙ ap (λ n. take n table) (room .whole ∙ ap (λ n. n * size) one ∙ one-mul size)
+        ∙ ap (λ n. take size (drop n table)) (sym (zero-mul size))

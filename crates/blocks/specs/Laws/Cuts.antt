@@ -1,6 +1,6 @@
 -- The rows of all cuts: where each cut lies in them, and that its blocks are the parts of its size.
-use Prim.Native.Nat.{ℕ, suc, _+_, _-_, _*_, _^_, _≤_, min}
-use mathlib.Core.Path.{_≡_, sym, _∙_, ap, ap₂}
+use Prim.Native.Nat.{ℕ, zero, suc, _+_, _-_, _*_, _/_, _^_, _≤_, min}
+use mathlib.Core.Path.{_≡_, refl, sym, _∙_, ap, ap₂}
 use mathlib.Core.List.{List, map}
 use native.Mathlib.Nat.{two-pow-succ, mul-comm}
 use native.Mathlib.Omega.{arith}
@@ -77,15 +77,15 @@ module _ {n h count size : ℕ} {table : List ℤ} {classRow firstRow : List ℕ
   unfolding mostVariables
   count-small = rw is-count (pow-pos h, pow-mono {i = h} {j = 12} (let v = rows .variables in omega arith))
 
-  within : count - 1 + count ≤ cutPlace (suc n)
+  rows-reach : count - 1 + count ≤ cutPlace (suc n)
   unfolding cutPlace
-  within = rw is-count (cut-within n h cut)
+  rows-reach = rw is-count (cut-within n h cut)
 
   pub within-classes : count - 1 + count ≤ length classRow
-  within-classes = rw (rows .classRow) within
+  within-classes = rw (rows .classPlaces) rows-reach
 
   pub within-firsts : count - 1 + count ≤ length firstRow
-  within-firsts = rw (rows .firstRow) within
+  within-firsts = rw (rows .firstPlaces) rows-reach
 
   abbrev lent : List ℕ → List ℕ
   lent row = take (count - 1 + count - (count - 1)) (drop (count - 1) row)
@@ -93,10 +93,16 @@ module _ {n h count size : ℕ} {table : List ℤ} {classRow firstRow : List ℕ
   lent-length : (row : List ℕ) → count - 1 + count ≤ length row → length (lent row) ≡ count
   lent-length row w = simp (length-take, length-drop) (let s = count-small in let e : min (count - 1 + count - (count - 1)) (length row - (count - 1)) ≡ count = omega arith in e)
 
+  -- A cut has one block, or the halves of those of the cut above.
+  halved : (k : ℕ) → (2 ^ k ≡ 1 → ⊥) → 2 ^ k ≡ 2 * (2 ^ k / 2)
+  halved zero other = absurd (other refl)
+  halved (suc k) other = let e : 2 ^ suc k ≡ 2 * (2 ^ suc k / 2) = omega (arith, two-pow-succ k) in e
+
   pub cut-room : CutRoom table size (lent classRow) (lent firstRow)
   cut-room = record {
     whole = rows .whole ∙ sym (ap₂ _*_ (lent-length classRow within-classes ∙ is-count) is-size ∙ cut-whole n h cut);
     alike = lent-length firstRow within-firsts ∙ sym (lent-length classRow within-classes);
+    halved = rw (lent-length classRow within-classes, is-count) (halved h);
   }
 
   pub cut-placed : (found : ℕ) (numbered placed : List ℕ) → CutClassed table size (length (lent classRow)) found numbered placed

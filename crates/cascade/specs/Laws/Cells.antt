@@ -8,12 +8,13 @@ use native.Mathlib.Omega.{arith}
 use lib.ListN.{length, getD, length-map}
 use lib.Dec.{leb}
 use lib.Pow.{pow-pos, pow-mono}
-use lib.IntN.{ℤ, pos, negsuc}
+use lib.IntN.{ℤ, pos}
 use lib.Signed.{mag}
 use borrow.Author.Tests.{leb-true, lt-ltb}
-use Rattle.numbers.specs.Ranges.{isVariables, isValue, isWeight, within, mostVariables, widestAddress}
+use Rattle.numbers.specs.Ranges.{isVariables, isValue, isWeight, mostVariables, widestAddress}
 use Rattle.numbers.specs.Widths.{railWidth, weightWidth, holds, cellBits}
 use Rattle.numbers.specs.Laws.Bools.{both}
+use Rattle.numbers.specs.Laws.Bounds.{weight-mag}
 use Rattle.numbers.specs.Laws.Lists.{every-at, every-from, getD-map}
 use Rattle.numbers.specs.Laws.Widths.{rail-width-least, holds-suc, weight-width-least}
 use Rattle.numbers.specs.Laws.Powers.{part-room}
@@ -26,12 +27,6 @@ use Rattle.diagram.specs.Accepted.{Accepted}
 use Rattle.cascade.specs.Cascade.{wordsOf, cellOf, cardFor}
 use Rattle.cascade.specs.Groupings.{addressWidth}
 use Rattle.cascade.specs.Laws.Words.{words-count, word-class-below, word-weight-zero, word-weight-range}
-
--- A weight's magnitude.
-pub weight-mag : (z : ℤ) → isWeight z ≡ true → mag z ≤ 16777215
-unfolding isWeight within
-weight-mag (pos a) h = leb-true a 16777215 h
-weight-mag (negsuc a) h = let l = leb-true a 16777214 (both (leb a 16777214) true h .0) in omega arith
 
 -- A weight fits 25 bits.
 weight-held : (z : ℤ) → isWeight z ≡ true → holds 25 z ≡ true

@@ -25,7 +25,7 @@ module _ (n : ℕ) (table : List ℤ) (accepted : Accepted n table) where
   keeps-cell h g some ends = record {
     shape = record {
       some = some;
-      within = omega arith;
+      inside = omega arith;
       joined = refl;
       leaving = cell-outgoing n table accepted h g ends .0;
       most = cell-outgoing n table accepted h g ends .1;

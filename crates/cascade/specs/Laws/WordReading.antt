@@ -9,6 +9,7 @@ use lib.Pow.{pow-pos, pow-mono}
 use lib.IntN.{ℤ, _-ℤ_}
 use mir.Syntax.{w32}
 use mir.Val.{SFits}
+use Rattle.numbers.specs.Laws.Bounds.{weight-mag}
 use Rattle.numbers.specs.Laws.Powers.{part-room}
 use Rattle.blocks.specs.Blocks.{block, first, differences}
 use Rattle.blocks.specs.Classes.{classCount, classOf}
@@ -19,7 +20,7 @@ use Rattle.blocks.specs.Laws.Places.{place-inside, length-numbers, length-first
 use Rattle.image.specs.WellFormed.{noWord}
 use Rattle.cascade.specs.Cascade.{wordOf, wordsOf}
 use Rattle.cascade.specs.Inner.Words.{cellWord, wordBlock, BlockReady, WordReady}
-use Rattle.cascade.specs.Laws.Cells.{variables-most, weight-mag}
+use Rattle.cascade.specs.Laws.Cells.{variables-most}
 use Rattle.cascade.specs.Laws.Words.{word-of-class, word-by-differences, sub-blocks, sub-block-below, word-class, word-weight, word-weight-range}
 
 module _ {n h g k : ℕ} {table : List ℤ} {firstRow : List ℕ} (r : WordReady n h g k table firstRow) where

@@ -9,7 +9,7 @@ use lib.ListN.{length, getD, drop, drop-of-length-le}
 use lib.Seq.{drop-cons}
 use lib.Dec.{T, leb, ltb, eqb}
 use lib.IntN.{ℤ, pos, negsuc, natAbs}
-use lib.Signed.{mag, ltZ, nonNeg}
+use lib.Signed.{ltZ, nonNeg}
 use mir.Syntax.{w32, w64}
 use mir.Val.{Fits, SFits, ofZ}
 use mir.Facts.{fits-natAbs, sfits-lit}
@@ -73,12 +73,6 @@ zero-bits z h =
     yes-or-no (eqZ z (pos 0))
     (λ e. eq-eqb (ofZ w32 z) 0 (ap (ofZ w32) (eqZ-true z (pos 0) e)) ∙ sym e)
     (λ e. ne-eqb (ofZ w32 z) 0 (λ b. true≢false (sym (eqZ-refl (pos 0)) ∙ ap (λ y. eqZ y (pos 0)) (sym (same-bits w32 z (pos 0) h (sfits-lit tt) b)) ∙ e)) ∙ sym e)
-
--- A weight's magnitude.
-pub weight-mag : (z : ℤ) → isWeight z ≡ true → mag z ≤ 16777215
-unfolding isWeight within
-weight-mag (pos a) h = leb-true a 16777215 h
-weight-mag (negsuc a) h = let l = leb-true a 16777214 (both (leb a 16777214) true h .0) in omega arith
 
 -- ---- a child
 

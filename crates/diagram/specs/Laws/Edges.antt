@@ -11,7 +11,7 @@ use lib.Signed.{mag}
 use Rattle.numbers.specs.Lists.{numbersFrom, every}
 use Rattle.numbers.specs.Ranges.{within, isValue, isWeight, eqZ}
 use Rattle.numbers.specs.Laws.Bools.{yes-or-no, both}
-use Rattle.numbers.specs.Laws.Bounds.{value-mag}
+use Rattle.numbers.specs.Laws.Bounds.{value-mag, weight-mag}
 use Rattle.numbers.specs.Laws.Integers.{eqZ-refl}
 use Rattle.numbers.specs.Laws.Machine.{mag-add}
 use Rattle.numbers.specs.Laws.Lists.{length-range, getD-range, every-at}
@@ -20,7 +20,7 @@ use Rattle.diagram.specs.Build.{nodeRoom}
 use Rattle.diagram.specs.Walk.{variableAt, lowAt, highAt, weightAt, childFits, recordFits, recordCount, listFits, bitSet, pathWeight, walkValue}
 use Rattle.diagram.specs.Inner.Edges.{Walkable, edgeAt}
 use Rattle.diagram.specs.declared.Edge.{Edge}
-use Rattle.diagram.specs.Laws.Checks.{unequal, child-node, weight-mag}
+use Rattle.diagram.specs.Laws.Checks.{unequal, child-node}
 use Rattle.diagram.specs.Laws.Paths.{path-terminal}
 
 -- ---- which edge is taken

@@ -8,8 +8,9 @@ use native.Mathlib.Decide.{decLt}
 use lib.ListN.{length, getD}
 use lib.Seq.{ext-getD, getD-take, getD-drop}
 use lib.Pow.{pow-pos, pow-mono}
-use lib.IntN.{ℤ, pos, natAbs, _+ℤ_, _-ℤ_, +ℤ-idl}
+use lib.IntN.{ℤ, pos, natAbs, _+ℤ_, _-ℤ_}
 use Rattle.numbers.specs.Laws.Integers.{sub-add}
+use Rattle.numbers.specs.Laws.Order.{no-difference}
 use Rattle.numbers.specs.Laws.Powers.{power-split}
 use Rattle.blocks.specs.Blocks.{block, first, lowerHalf, upperHalf, differences}
 use Rattle.blocks.specs.Laws.Differences.{length-differences, differences-at}
@@ -26,10 +27,6 @@ use Rattle.diagram.specs.Laws.RecordBlocks.{RecordBlock, blockOf, record
 -- Equal differences from one number are of equal numbers.
 sub-cancel : (a b c : ℤ) → a -ℤ c ≡ b -ℤ c → a ≡ b
 sub-cancel a b c e = sym (sub-add a c) ∙ ap (λ z. z +ℤ c) e ∙ sub-add b c
-
--- A difference of 0 is one of equal numbers.
-sub-none : (a b : ℤ) → a -ℤ b ≡ pos 0 → a ≡ b
-sub-none a b e = sym (sub-add a b) ∙ ap (λ z. z +ℤ b) e ∙ +ℤ-idl b
 
 -- Places that are a multiple of 2^i apart.
 same-low-bits : (i above y : ℕ) → i ≤ above → (2 ^ above + y) % 2 ^ i ≡ y % 2 ^ i
@@ -91,7 +88,7 @@ module _ (n : ℕ) (table : List ℤ) (size : length table ≡ 2 ^ n) where
       same-child = ap natAbs (sym (r .stands .low) ∙ children ∙ r .stands .high)
 
       same-first : first upper ≡ first lower
-      same-first = sub-none (first upper) (first lower) (sym (r .stands .weight) ∙ weightless)
+      same-first = no-difference (first upper) (first lower) (sym (r .stands .weight) ∙ weightless)
 
       at-place : (y : ℕ) → y < 2 ^ i → getD lower y (pos 0) -ℤ first upper ≡ getD upper y (pos 0) -ℤ first upper
       at-place y l =

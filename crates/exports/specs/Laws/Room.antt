@@ -27,8 +27,8 @@ sizes-room n table classes firsts counts fit =
       record {
         variables = leb-true n mostVariables (d .0);
         whole = eqb-true (length table) (2 ^ n) (d .1);
-        classRow = eqb-true (length classes) (cutPlace (suc n)) (c .1);
-        firstRow = eqb-true (length firsts) (cutPlace (suc n)) (b .1);
+        classPlaces = eqb-true (length classes) (cutPlace (suc n)) (c .1);
+        firstPlaces = eqb-true (length firsts) (cutPlace (suc n)) (b .1);
       },
       eqb-true (length counts) (suc n) (a .1),
     )

@@ -45,7 +45,7 @@ unfolding resultOf
 loop-again c =
     let a = c .before .before .before .before .before .args in
     let l = c .before .before .before .loop in
-    let is-value : toZ w32 (ofZ w32 (c .before .evaluate .result .value)) ≡ runCard (cardRead (a .image .now)) (l .x) .value = toZ-ofZ {w = w32} (record { sfits = c .struct-told .given .1 .1 .1 .0 .1 }) ∙ ap (λ r. r .value) (c .before .evaluate .ensures) in
+    let is-value : toZ w32 (ofZ w32 (c .before .evaluate .result .value)) ≡ runCard (cardRead (a .image .now)) (l .x) .value = toZ-ofZ {w = w32} (record { sfits = c .struct-told .given .0 .1 }) ∙ ap (λ r. r .value) (c .before .evaluate .ensures) in
     rw is-value (filled-more (cardRead (a .image .now)) (a .table .now) (l .table) (l .x) (below c) (l .inv))
 
 same-length : tie.Need-same-length Inv-loop μ-loop

@@ -32,7 +32,7 @@ returns-2 : tie.Need-returns-2
 unfolding ran resultOf
 returns-2 c =
     let s = c .before .before .before .before .before in
-    ap (λ z. accepted (record { value = z; words = c .before .evaluate .result .words })) (toZ-ofZ {w = w32} (record { sfits = c .struct-told .given .1 .1 .1 .0 .1 }))
+    ap (λ z. accepted (record { value = z; words = c .before .evaluate .result .words })) (toZ-ofZ {w = w32} (record { sfits = c .struct-told .given .0 .1 }))
     ∙ ap accepted (c .before .evaluate .ensures)
     ∙ sym (run-value (s .args .image .now) (s .pre) (s .args .x) (rw (size (c .before .before .before)) at (c .before .before .if1 .left)))
 

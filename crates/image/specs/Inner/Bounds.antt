@@ -4,7 +4,7 @@ use mathlib.Core.Path.{_≡_}
 use mathlib.Core.Bool.{true}
 use mathlib.Core.List.{List}
 use Rattle.numbers.specs.Ranges.{mostVariables, widestAddress}
-use Rattle.numbers.specs.Widths.{railWidth}
+use Rattle.numbers.specs.Widths.{addressBits}
 use Rattle.image.specs.Bytes.{unsignedAt}
 use Rattle.image.specs.Inner.Kinds.{kindOf, widthOf}
 use Rattle.image.specs.Reader.{due, keepsRules, mostClasses}
@@ -29,7 +29,7 @@ pub record WithinBounds (p : Place) : Type 0 where
 
 -- A cell that has no more than these memory bits.
 pub record CellFits (incoming group outgoing width : ℕ) : Type 0 where
-  pub address : railWidth incoming + group ≤ widestAddress
+  pub address : addressBits incoming group ≤ widestAddress
   pub entering : incoming ≤ mostClasses
   pub leaving : outgoing ≤ mostClasses
   pub narrow : width < 256
@@ -43,5 +43,5 @@ pub record IsDue (p : Place) (command : Command) : Type 0 where
 
 -- A command that is due at a place and keeps its rules there.
 pub record Follows (p : Place) (command : Command) : Type 0 where
-  pub due : IsDue p command
+  pub isDue : IsDue p command
   pub rules : keepsRules p command ≡ true

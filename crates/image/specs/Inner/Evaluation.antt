@@ -14,7 +14,8 @@ use Rattle.image.specs.Commands.{cardOf}
 use Rattle.image.specs.Reader.{reading}
 use Rattle.image.specs.Run.{Result, groupValue, runCard}
 use Rattle.image.specs.declared.Command.{Command}
-use Rattle.image.specs.declared.Walk.{Walk}
+use Rattle.image.specs.declared.Evaluated.{Evaluated}
+use Rattle.image.specs.declared.Progress.{Progress}
 
 -- An image that is accepted, with its commands.
 pub record Accepted (image : List ℕ) : Type 0 where
@@ -29,45 +30,49 @@ cardIn (refused number) = cardOf []
 unfoldable pub cardRead : List ℕ → Card
 cardRead image = cardIn (reading image)
 
+-- The paper's answer that an evaluation stands for.
+unfoldable pub resultOf : Evaluated → Result
+resultOf evaluated = record { value = evaluated .value; words = evaluated .words }
+
 -- What the cells so far gave.
-unfoldable pub resultOf : Walk → Result
-resultOf w = record { value = w .value; words = w .words }
+unfoldable pub resultSoFar : Progress → Result
+resultSoFar progress = record { value = progress .value; words = progress .words }
 
 -- Before the first cell: behind the table command, with its offset and class 0.
-unfoldable pub firstWalk : List ℕ → Walk
-firstWalk image = record { at = 6; left = unsignedAt image 1 1; class = 0; value = signedAt image 2; words = 0 }
+unfoldable pub firstProgress : List ℕ → Progress
+firstProgress image = record { at = 6; left = unsignedAt image 1 1; class = 0; value = signedAt image 2; words = 0 }
 
 -- The group of the cell ahead, as its byte says.
-unfoldable pub groupAhead : List ℕ → Walk → ℕ
-groupAhead image w = unsignedAt image (w .at + 1) 1
+unfoldable pub groupAhead : List ℕ → Progress → ℕ
+groupAhead image progress = unsignedAt image (progress .at + 1) 1
 
 -- Where the word for X stands in the cell ahead, each word being 7 bytes.
-unfoldable pub wordPlace : List ℕ → ℕ → Walk → ℕ
-wordPlace image x w = w .at + 7 + 7 * (w .class * 2 ^ groupAhead image w + groupValue (w .left) (groupAhead image w) x)
+unfoldable pub wordPlace : List ℕ → ℕ → Progress → ℕ
+wordPlace image x progress = progress .at + 7 + 7 * (progress .class * 2 ^ groupAhead image progress + groupValue (progress .left) (groupAhead image progress) x)
 
 -- Behind the last word of the cell ahead.
-unfoldable pub nextPlace : List ℕ → Walk → ℕ
-nextPlace image w = w .at + 7 + 7 * (unsignedAt image (w .at + 2) 2 * 2 ^ groupAhead image w)
+unfoldable pub nextPlace : List ℕ → Progress → ℕ
+nextPlace image progress = progress .at + 7 + 7 * (unsignedAt image (progress .at + 2) 2 * 2 ^ groupAhead image progress)
 
 -- After the cell ahead: its word's class is taken, and its weight added.
-unfoldable pub cellRead : List ℕ → ℕ → Walk → Walk
-cellRead image x w = record {
-  at = nextPlace image w;
-  left = w .left - groupAhead image w;
-  class = unsignedAt image (wordPlace image x w + 1) 2;
-  value = w .value +ℤ signedAt image (wordPlace image x w + 3);
-  words = w .words + 1;
+unfoldable pub cellRead : List ℕ → ℕ → Progress → Progress
+cellRead image x progress = record {
+  at = nextPlace image progress;
+  left = progress .left - groupAhead image progress;
+  class = unsignedAt image (wordPlace image x progress + 1) 2;
+  value = progress .value +ℤ signedAt image (wordPlace image x progress + 3);
+  words = progress .words + 1;
 }
 
 -- A cell lies ahead, with the word for X, and the sum stays small.
-pub record CellAhead (image : List ℕ) (x : ℕ) (w : Walk) : Type 0 where
-  pub few : w .left ≤ mostVariables
-  pub some : 1 ≤ groupAhead image w
-  pub within : groupAhead image w ≤ w .left
-  pub next : nextPlace image w ≤ length image
-  pub word : wordPlace image x w + 7 ≤ length image
-  pub small : mag (w .value +ℤ signedAt image (wordPlace image x w + 3)) < 2147483648
-  pub words : w .words < mostVariables
+pub record CellAhead (image : List ℕ) (x : ℕ) (progress : Progress) : Type 0 where
+  pub few : progress .left ≤ mostVariables
+  pub some : 1 ≤ groupAhead image progress
+  pub inside : groupAhead image progress ≤ progress .left
+  pub next : nextPlace image progress ≤ length image
+  pub word : wordPlace image x progress + 7 ≤ length image
+  pub small : mag (progress .value +ℤ signedAt image (wordPlace image x progress + 3)) < 2147483648
+  pub words : progress .words < mostVariables
 
 -- Run's values at the first so many X.
 unfoldable pub valuesTo : Card → ℕ → List ℤ

@@ -62,7 +62,7 @@ bounds-kept p (Cell group incoming outgoing width) b rules narrow =
     let k = shape-facts p group incoming outgoing width rules in
     let m = cell-bits-most incoming group outgoing width (cell-fits p group incoming outgoing width b rules narrow) in
     let some = k .some in
-    let within = k .within in
+    let inside = k .inside in
     record { group = (let l = b .left in omega arith); classes = k .most; left = (let l = b .left in omega arith); bits = (let l = b .bits in omega arith) }
 bounds-kept p (Word class weight) b rules narrow = record { group = b .group; classes = b .classes; left = b .left; bits = b .bits }
 bounds-kept p (End bits) b rules narrow = record { group = b .group; classes = b .classes; left = b .left; bits = b .bits }

@@ -108,11 +108,11 @@ module _ (image : List ℕ) (at : ℕ) where
 -- The bytes between two places.
 part-bytes : (image : List ℕ) → AreBytes image → (at k : ℕ) → AreBytes (take k (drop at image))
 unfolding AreBytes
-part-bytes image h at k i = within (decLt i k)
+part-bytes image h at k i = at-place (decLt i k)
   where
-    within : Dec (i < k) → getD (take k (drop at image)) i 0 < 256
-    within (yes l) = rw (getD-take k (drop at image) i 0 l, getD-drop at image i 0) (h (at + i))
-    within (no l) = rw (List·getD-eq-default (take k (drop at image)) 0 {n = i} (rw length-take (le-trans (min-le-left k (length (drop at image))) (omega arith)))) (lit< tt)
+    at-place : Dec (i < k) → getD (take k (drop at image)) i 0 < 256
+    at-place (yes l) = rw (getD-take k (drop at image) i 0 l, getD-drop at image i 0) (h (at + i))
+    at-place (no l) = rw (List·getD-eq-default (take k (drop at image)) 0 {n = i} (rw length-take (le-trans (min-le-left k (length (drop at image))) (omega arith)))) (lit< tt)
 
 module _ (image : List ℕ) (bytes : AreBytes image) (at k next : ℕ) (n : at + k ≡ next) (room : next ≤ length image) where
   part-length : length (take k (drop at image)) ≡ k

@@ -108,7 +108,7 @@ module _ (p : Place) (cell : cells.Cell) (below : List cells.Cell) where
   cell-may c =
       let shape = c .rest .0 .shape in
       let some = shape .some in
-      let within = shape .within in
+      let inside = shape .inside in
       record {
         width = width-here p (sym (c .count)) ∙ eq-eqb (p .width) (weightWidth (p .least ∷ p .greatest ∷ [])) (c .width);
         allowed = due-cell p (c .begun) (sym (c .count)) (λ e. absurd (omega arith));

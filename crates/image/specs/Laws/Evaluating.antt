@@ -11,6 +11,7 @@ use lib.Pow.{pow-pos}
 use lib.IntN.{ℤ, _+ℤ_}
 use lib.Signed.{mag}
 use Rattle.numbers.specs.Ranges.{mostVariables}
+use Rattle.numbers.specs.Laws.Bounds.{value-mag, weight-mag}
 use Rattle.numbers.specs.Laws.Machine.{mag-add}
 use Rattle.numbers.specs.Laws.Pieces.{shifted-one}
 use Rattle.numbers.specs.Laws.Powers.{part-room}
@@ -19,17 +20,16 @@ use Rattle.image.specs.Bytes.{unsignedAt, signedAt}
 use Rattle.image.specs.Cells as cells
 use Rattle.image.specs.Cells.{Card, totalBits}
 use Rattle.image.specs.Commands.{wordCommand, cellCommands, cardCommands, cardOf}
-use Rattle.image.specs.Inner.Evaluation.{Accepted, cardIn, cardRead, resultOf, firstWalk, groupAhead, wordPlace, nextPlace, cellRead, CellAhead}
+use Rattle.image.specs.Inner.Evaluation.{Accepted, cardIn, cardRead, resultSoFar, firstProgress, groupAhead, wordPlace, nextPlace, cellRead, CellAhead}
 use Rattle.image.specs.Reader.{dueSize, commandAt}
 use Rattle.image.specs.Run.{Result, wordAt, groupValue, runFrom, runCard}
 use Rattle.image.specs.WellFormed.{noWord, KeepsCell, KeepsCells}
 use Rattle.image.specs.Laws.Bounds.{variables-most}
-use Rattle.image.specs.Laws.Held.{weight-small, value-small}
 use Rattle.image.specs.Laws.Images.{reading-standing, commands-of-card, card-keeps}
 use Rattle.image.specs.Laws.Standing.{Stands, Standing, standing-count}
 use Rattle.image.specs.declared.Command.{Command}
 use Rattle.image.specs.declared.Command.the-variants.{Table, Cell, Word, End}
-use Rattle.image.specs.declared.Walk.{Walk}
+use Rattle.image.specs.declared.Progress.{Progress}
 
 -- ---- words in place
 
@@ -63,84 +63,84 @@ cell-operands image at cell s =
 -- ---- the state of evaluation
 
 -- The cells that are left, and that they lead to this result.
-pub record Evaluating (image : List ℕ) (x : ℕ) (result : Result) (w : Walk) : Type 0 where
+pub record Evaluating (image : List ℕ) (x : ℕ) (result : Result) (p : Progress) : Type 0 where
   pub below : List cells.Cell
   pub classes : ℕ
   pub bits : ℕ
-  pub keeps : KeepsCells (w .left) classes below
-  pub known : w .class < classes
-  pub count : w .words + w .left ≤ mostVariables
-  pub small : mag (w .value) ≤ 8388608 + w .words * 16777216
-  pub stands : Standing image (w .at) (flatMap cellCommands below ++ End bits ∷ [])
-  pub leads : runFrom (w .left) below x (w .class) (resultOf w) ≡ result
+  pub keeps : KeepsCells (p .left) classes below
+  pub known : p .class < classes
+  pub count : p .words + p .left ≤ mostVariables
+  pub small : mag (p .value) ≤ 8388608 + p .words * 16777216
+  pub stands : Standing image (p .at) (flatMap cellCommands below ++ End bits ∷ [])
+  pub leads : runFrom (p .left) below x (p .class) (resultSoFar p) ≡ result
 
 -- The cell ahead, its word for X, and the rest.
-module _ (image : List ℕ) (x : ℕ) (w : Walk) (classes bits : ℕ) (cell : cells.Cell) (below : List cells.Cell)
-    (keeps : KeepsCell (w .left) classes cell) (known : w .class < classes)
-    (stands : Standing image (w .at) (flatMap cellCommands (cell ∷ below) ++ End bits ∷ [])) where
+module _ (image : List ℕ) (x : ℕ) (p : Progress) (classes bits : ℕ) (cell : cells.Cell) (below : List cells.Cell)
+    (keeps : KeepsCell (p .left) classes cell) (known : p .class < classes)
+    (stands : Standing image (p .at) (flatMap cellCommands (cell ∷ below) ++ End bits ∷ [])) where
   abbrev rest : List Command
   rest = flatMap cellCommands below ++ End bits ∷ []
 
   abbrev index : ℕ
-  index = w .class * 2 ^ cell .group + groupValue (w .left) (cell .group) x
+  index = p .class * 2 ^ cell .group + groupValue (p .left) (cell .group) x
 
   abbrev word : cells.Word
   word = getD (cell .words) index noWord
 
-  whole-cell : Stands image (w .at) (Cell (cell .group) (cell .incoming) (cell .outgoing) (cell .width)) × Standing image (w .at + 7) (map wordCommand (cell .words) ++ rest)
+  whole-cell : Stands image (p .at) (Cell (cell .group) (cell .incoming) (cell .outgoing) (cell .width)) × Standing image (p .at + 7) (map wordCommand (cell .words) ++ rest)
   unfolding Standing flatMap cellCommands kindOf dueSize
-  whole-cell = (stands .0, subst (Standing image (w .at + 7)) (append-assoc (map wordCommand (cell .words)) (flatMap cellCommands below) (End bits ∷ [])) (stands .1))
+  whole-cell = (stands .0, subst (Standing image (p .at + 7)) (append-assoc (map wordCommand (cell .words)) (flatMap cellCommands below) (End bits ∷ [])) (stands .1))
 
-  is-group : groupAhead image w ≡ cell .group
+  is-group : groupAhead image p ≡ cell .group
   unfolding groupAhead
-  is-group = cell-operands image (w .at) cell (whole-cell .0) .0
+  is-group = cell-operands image (p .at) cell (whole-cell .0) .0
 
-  is-next : nextPlace image w ≡ w .at + 7 + 7 * length (cell .words)
+  is-next : nextPlace image p ≡ p .at + 7 + 7 * length (cell .words)
   unfolding nextPlace
-  is-next = ap₂ (λ i g. w .at + 7 + 7 * (i * 2 ^ g)) (cell-operands image (w .at) cell (whole-cell .0) .1) is-group ∙ ap (λ n. w .at + 7 + 7 * n) (sym (keeps .whole))
+  is-next = ap₂ (λ i g. p .at + 7 + 7 * (i * 2 ^ g)) (cell-operands image (p .at) cell (whole-cell .0) .1) is-group ∙ ap (λ n. p .at + 7 + 7 * n) (sym (keeps .whole))
 
-  is-place : wordPlace image x w ≡ w .at + 7 + 7 * index
+  is-place : wordPlace image x p ≡ p .at + 7 + 7 * index
   unfolding wordPlace
-  is-place = ap (λ g. w .at + 7 + 7 * (w .class * 2 ^ g + groupValue (w .left) g x)) is-group
+  is-place = ap (λ g. p .at + 7 + 7 * (p .class * 2 ^ g + groupValue (p .left) g x)) is-group
 
-  inside : index < length (cell .words)
+  index-inside : index < length (cell .words)
   unfolding groupValue
-  inside =
-      let v = mod-lt (x / 2 ^ (w .left - cell .group)) (pow-pos (cell .group)) in
-      let r = part-room (cell .incoming) (cell .group) (w .class) (let j = keeps .shape .joined in omega arith) in
+  index-inside =
+      let v = mod-lt (x / 2 ^ (p .left - cell .group)) (pow-pos (cell .group)) in
+      let r = part-room (cell .incoming) (cell .group) (p .class) (let j = keeps .shape .joined in omega arith) in
       let n = keeps .whole in
       omega arith
 
-  word-stands : Stands image (w .at + 7 + 7 * index) (wordCommand word)
-  word-stands = word-stand image (cell .words) rest (w .at + 7) (whole-cell .1) index inside
+  word-stands : Stands image (p .at + 7 + 7 * index) (wordCommand word)
+  word-stands = word-stand image (cell .words) rest (p .at + 7) (whole-cell .1) index index-inside
 
-  is-class : unsignedAt image (wordPlace image x w + 1) 2 ≡ word .class
-  is-class = ap (λ n. unsignedAt image (n + 1) 2) is-place ∙ word-operands image (w .at + 7 + 7 * index) word word-stands .0
+  is-class : unsignedAt image (wordPlace image x p + 1) 2 ≡ word .class
+  is-class = ap (λ n. unsignedAt image (n + 1) 2) is-place ∙ word-operands image (p .at + 7 + 7 * index) word word-stands .0
 
-  is-weight : signedAt image (wordPlace image x w + 3) ≡ word .weight
-  is-weight = ap (λ n. signedAt image (n + 3)) is-place ∙ word-operands image (w .at + 7 + 7 * index) word word-stands .1
+  is-weight : signedAt image (wordPlace image x p + 3) ≡ word .weight
+  is-weight = ap (λ n. signedAt image (n + 3)) is-place ∙ word-operands image (p .at + 7 + 7 * index) word word-stands .1
 
-  rest-stands : Standing image (nextPlace image w) rest
-  rest-stands = subst (λ n. Standing image n rest) (sym is-next) (after-words image (cell .words) rest (w .at + 7) (whole-cell .1))
+  rest-stands : Standing image (nextPlace image p) rest
+  rest-stands = subst (λ n. Standing image n rest) (sym is-next) (after-words image (cell .words) rest (p .at + 7) (whole-cell .1))
 
-  word-room : wordPlace image x w + 7 ≤ length image
+  word-room : wordPlace image x p + 7 ≤ length image
   unfolding wordCommand kindOf dueSize
   word-room = let r = word-stands .room in let e = is-place in omega arith
 
-  next-room : nextPlace image w ≤ length image
-  next-room = let c = standing-count image (nextPlace image w) rest rest-stands in omega arith
+  next-room : nextPlace image p ≤ length image
+  next-room = let c = standing-count image (nextPlace image p) rest rest-stands in omega arith
 
 -- The code's numbers stay small: the next command, and the shift by the group.
-module _ (image : List ℕ) (x : ℕ) (w : Walk) (a : CellAhead image x w) where
-  pub command-room : w .at + 7 ≤ length image
+module _ (image : List ℕ) (x : ℕ) (p : Progress) (a : CellAhead image x p) where
+  pub command-room : p .at + 7 ≤ length image
   unfolding nextPlace
   command-room = let n = a .next in omega arith
 
-  pub group-narrow : (group : ℕ) → group ≡ groupAhead image w → group < 64
+  pub group-narrow : (group : ℕ) → group ≡ groupAhead image p → group < 64
   unfolding mostVariables
-  group-narrow group e = let t = a .within in let f = a .few in omega arith
+  group-narrow group e = let t = a .inside in let f = a .few in omega arith
 
-  pub group-size : (group : ℕ) → group ≡ groupAhead image w → (1 * 2 ^ group) % 18446744073709551616 ≡ 2 ^ groupAhead image w
+  pub group-size : (group : ℕ) → group ≡ groupAhead image p → (1 * 2 ^ group) % 18446744073709551616 ≡ 2 ^ groupAhead image p
   group-size group e = shifted-one group (group-narrow group e) ∙ ap (λ g. 2 ^ g) e
 
 -- ---- one cell after another
@@ -150,34 +150,34 @@ no-cells {ℓ} : {X : Type ℓ} (left classes : ℕ) → KeepsCells left classes
 unfolding KeepsCells
 no-cells left classes k h = absurd (omega arith)
 
-small-sum : (value weight : ℤ) (words : ℕ) → mag value ≤ 8388608 + words * 16777216 → mag weight < 16777216 → mag (value +ℤ weight) ≤ 8388608 + (words + 1) * 16777216
+small-sum : (value weight : ℤ) (words : ℕ) → mag value ≤ 8388608 + words * 16777216 → mag weight ≤ 16777215 → mag (value +ℤ weight) ≤ 8388608 + (words + 1) * 16777216
 small-sum value weight words v w = let s = mag-add value weight in omega arith
 
-module _ (image : List ℕ) (x : ℕ) (result : Result) (w : Walk) where
+module _ (image : List ℕ) (x : ℕ) (result : Result) (p : Progress) where
   abbrev Ahead : List cells.Cell → Type 0
-  Ahead below = (classes bits : ℕ) → KeepsCells (w .left) classes below → w .class < classes → w .words + w .left ≤ mostVariables → mag (w .value) ≤ 8388608 + w .words * 16777216
-      → Standing image (w .at) (flatMap cellCommands below ++ End bits ∷ []) → runFrom (w .left) below x (w .class) (resultOf w) ≡ result → 0 < w .left
-      → CellAhead image x w × Evaluating image x result (cellRead image x w)
+  Ahead below = (classes bits : ℕ) → KeepsCells (p .left) classes below → p .class < classes → p .words + p .left ≤ mostVariables → mag (p .value) ≤ 8388608 + p .words * 16777216
+      → Standing image (p .at) (flatMap cellCommands below ++ End bits ∷ []) → runFrom (p .left) below x (p .class) (resultSoFar p) ≡ result → 0 < p .left
+      → CellAhead image x p × Evaluating image x result (cellRead image x p)
 
   ahead : (below : List cells.Cell) → Ahead below
-  unfolding KeepsCells runFrom resultOf cellRead wordAt mostVariables noWord
-  ahead [] classes bits keeps known count small stands leads some = no-cells (w .left) classes keeps some
+  unfolding KeepsCells runFrom resultSoFar cellRead wordAt mostVariables noWord
+  ahead [] classes bits keeps known count small stands leads some = no-cells (p .left) classes keeps some
   ahead (cell ∷ below) classes bits keeps known count small stands leads some =
       let k = keeps .0 in
-      let word = getD (cell .words) (w .class * 2 ^ cell .group + groupValue (w .left) (cell .group) x) noWord in
-      let kept = k .words (w .class * 2 ^ cell .group + groupValue (w .left) (cell .group) x) (inside image x w classes bits cell below k known stands) in
-      let group = is-group image x w classes bits cell below k known stands in
-      let class = is-class image x w classes bits cell below k known stands in
-      let weight = is-weight image x w classes bits cell below k known stands in
-      let within = k .shape .within in
+      let word = getD (cell .words) (p .class * 2 ^ cell .group + groupValue (p .left) (cell .group) x) noWord in
+      let kept = k .words (p .class * 2 ^ cell .group + groupValue (p .left) (cell .group) x) (index-inside image x p classes bits cell below k known stands) in
+      let group = is-group image x p classes bits cell below k known stands in
+      let class = is-class image x p classes bits cell below k known stands in
+      let weight = is-weight image x p classes bits cell below k known stands in
+      let inside-left = k .shape .inside in
       let first = k .shape .some in
-      let summed : mag (w .value +ℤ signedAt image (wordPlace image x w + 3)) ≤ 8388608 + (w .words + 1) * 16777216 = rw weight (small-sum (w .value) (word .weight) (w .words) small (weight-small (word .weight) (kept .ranged))) in (
+      let summed : mag (p .value +ℤ signedAt image (wordPlace image x p + 3)) ≤ 8388608 + (p .words + 1) * 16777216 = rw weight (small-sum (p .value) (word .weight) (p .words) small (weight-mag (word .weight) (kept .ranged))) in (
         record {
           few = omega arith;
           some = omega arith;
-          within = omega arith;
-          next = next-room image x w classes bits cell below k known stands;
-          word = word-room image x w classes bits cell below k known stands;
+          inside = omega arith;
+          next = next-room image x p classes bits cell below k known stands;
+          word = word-room image x p classes bits cell below k known stands;
           small = omega arith;
           words = omega arith;
         },
@@ -189,30 +189,30 @@ module _ (image : List ℕ) (x : ℕ) (result : Result) (w : Walk) where
           known = rw class (kept .known);
           count = omega arith;
           small = summed;
-          stands = rest-stands image x w classes bits cell below k known stands;
-          leads = rw (group, class, weight, add-one (w .words)) leads;
+          stands = rest-stands image x p classes bits cell below k known stands;
+          leads = rw (group, class, weight, add-one (p .words)) leads;
         },
       )
 
-  pub cell-ahead : Evaluating image x result w → 0 < w .left → CellAhead image x w
+  pub cell-ahead : Evaluating image x result p → 0 < p .left → CellAhead image x p
   cell-ahead e h = ahead (e .below) (e .classes) (e .bits) (e .keeps) (e .known) (e .count) (e .small) (e .stands) (e .leads) h .0
 
-  pub cell-passed : Evaluating image x result w → 0 < w .left → Evaluating image x result (cellRead image x w)
+  pub cell-passed : Evaluating image x result p → 0 < p .left → Evaluating image x result (cellRead image x p)
   cell-passed e h = ahead (e .below) (e .classes) (e .bits) (e .keeps) (e .known) (e .count) (e .small) (e .stands) (e .leads) h .1
 
   -- Every cell takes a variable at least.
-  pub cell-takes : CellAhead image x w → cellRead image x w .left < w .left
+  pub cell-takes : CellAhead image x p → cellRead image x p .left < p .left
   unfolding cellRead
-  cell-takes a = let s = a .some in let t = a .within in omega arith
+  cell-takes a = let s = a .some in let t = a .inside in omega arith
 
-  all-cells : (below : List cells.Cell) (classes : ℕ) → KeepsCells (w .left) classes below → w .left ≡ 0 → runFrom (w .left) below x (w .class) (resultOf w) ≡ resultOf w
+  all-cells : (below : List cells.Cell) (classes : ℕ) → KeepsCells (p .left) classes below → p .left ≡ 0 → runFrom (p .left) below x (p .class) (resultSoFar p) ≡ resultSoFar p
   unfolding runFrom KeepsCells
   all-cells [] classes k e = refl
-  all-cells (cell ∷ below) classes k e = let s = k .0 .shape .some in let t = k .0 .shape .within in absurd (omega arith)
+  all-cells (cell ∷ below) classes k e = let s = k .0 .shape .some in let t = k .0 .shape .inside in absurd (omega arith)
 
   -- Where no variable is left, the result is reached.
-  pub evaluated : Evaluating image x result w → w .left ≡ 0 → resultOf w ≡ result
-  evaluated e h = sym (all-cells (e .below) (e .classes) (e .keeps) h) ∙ e .leads
+  pub result-reached : Evaluating image x result p → p .left ≡ 0 → resultSoFar p ≡ result
+  result-reached e h = sym (all-cells (e .below) (e .classes) (e .keeps) h) ∙ e .leads
 
 -- ---- the first cell
 
@@ -253,8 +253,8 @@ module _ (image : List ℕ) (a : Accepted image) where
   pub variables-size : (n : ℕ) → n ≡ cardRead image .n → (1 * 2 ^ n) % 18446744073709551616 ≡ 2 ^ cardRead image .n
   variables-size n e = shifted-one n (variables-narrow n e) ∙ ap (λ n. 2 ^ n) e
 
-  pub first-evaluating : (x : ℕ) → Evaluating image x (runCard (cardRead image) x) (firstWalk image)
-  unfolding firstWalk runCard resultOf
+  pub first-evaluating : (x : ℕ) → Evaluating image x (runCard (cardRead image) x) (firstProgress image)
+  unfolding firstProgress runCard resultSoFar
   first-evaluating x =
       let w = card-keeps image (a .commands) (a .read) in
       let n = table-operands .0 in
@@ -266,7 +266,7 @@ module _ (image : List ℕ) (a : Accepted image) where
         keeps = rw n (w .cells);
         known = lit< tt;
         count = (let m = variables-most (card .n) (w .variables) .1 in omega arith);
-        small = rw o (let m = value-small (card .offset) (w .offset) in omega arith);
+        small = rw o (let m = value-mag (card .offset) (w .offset) in omega arith);
         stands = table-stands .1;
         leads = rw (n, o, is-card);
       }

@@ -6,14 +6,13 @@ use mathlib.Core.List.{List, [], _∷_, _++_, map, flatMap}
 use native.Mathlib.Omega.{arith}
 use lib.Dec.{lit<}
 use lib.ListN.{length, getD, length-map}
-use lib.IntN.{ℤ, pos, negℤ}
-use lib.Signed.{mag, leZ}
+use lib.IntN.{pos}
+use lib.Signed.{mag}
 use borrow.Author.Tests.{lt-ltb}
 use Rattle.numbers.specs.Lists.{sumOf}
-use Rattle.numbers.specs.Ranges.{isValue, isWeight, within, mostVariables}
+use Rattle.numbers.specs.Ranges.{isWeight, mostVariables}
 use Rattle.numbers.specs.Widths.{holds, weightWidth}
-use Rattle.numbers.specs.Laws.Bools.{both}
-use Rattle.numbers.specs.Laws.Extremes.{mag-between}
+use Rattle.numbers.specs.Laws.Bounds.{value-mag, weight-mag}
 use Rattle.numbers.specs.Laws.Lists.{every-from, getD-map}
 use Rattle.numbers.specs.Laws.Widths.{holds-suc, weight-width-least}
 use Rattle.image.specs.Inner.Bounds.{CellFits, mostBits}
@@ -27,19 +26,7 @@ use Rattle.image.specs.Laws.Images.{Holds, AllHold}
 use Rattle.image.specs.declared.Command.{Command}
 use Rattle.image.specs.declared.Command.the-variants.{Cell, Word, End}
 
--- ---- values and weights
-
-pub weight-small : (z : ℤ) → isWeight z ≡ true → mag z < 16777216
-unfolding isWeight within
-weight-small z h =
-    let parts = both (leZ (negℤ (pos 16777215)) z) (leZ z (pos 16777215)) h in
-    mag-between (negℤ (pos 16777215)) z (pos 16777215) 16777216 (parts .0) (parts .1) (lit< tt) (lit< tt)
-
-pub value-small : (z : ℤ) → isValue z ≡ true → mag z < 8388608
-unfolding isValue within
-value-small z h =
-    let parts = both (leZ (negℤ (pos 8388608)) z) (leZ z (pos 8388607)) h in
-    mag-between (negℤ (pos 8388608)) z (pos 8388607) 8388608 (parts .0) (parts .1) (lit< tt) (lit< tt)
+-- ---- widths
 
 -- No weight needs more than 25 bits.
 pub width-small : (words : List cells.Word) → ((j : ℕ) → j < length words → isWeight (getD words j noWord .weight) ≡ true) → weightWidth (weights words) ≤ 25
@@ -50,7 +37,7 @@ width-small words h =
     (λ j l. let inside : j < length words = rw (length-map words (λ word. word .weight)) at l in
     ap (holds 25) (getD-map (λ word. word .weight) words j noWord (pos 0) inside)
     ∙ holds-suc 24 (getD words j noWord .weight)
-    ∙ lt-ltb (mag (getD words j noWord .weight)) (2 ^ 24) (weight-small (getD words j noWord .weight) (h j inside))))
+    ∙ lt-ltb (mag (getD words j noWord .weight)) (2 ^ 24) (let m = weight-mag (getD words j noWord .weight) (h j inside) in omega arith)))
 
 -- ---- commands
 
@@ -65,7 +52,7 @@ words-hold outgoing most [] h = tt
 words-hold outgoing most (word ∷ words) h =
     let here = h 0 (omega arith) in
     let known = here .0 in
-    let small = weight-small (word .weight) (here .1) in (
+    let small = weight-mag (word .weight) (here .1) in (
       (omega arith, record { sfits = omega arith }),
       words-hold outgoing most words (λ j l. h (suc j) (omega arith)),
     )
@@ -80,7 +67,7 @@ module _ (left classes : ℕ) (cell : cells.Cell) (k : KeepsCell left classes ce
   cell-holds : left ≤ mostVariables → classes ≤ mostClasses → AllHold (cellCommands cell)
   unfolding AllHold Holds cellCommands mostVariables mostClasses
   cell-holds l h =
-      let within = k .shape .within in
+      let inside = k .shape .inside in
       let joined = k .shape .joined in
       let most = k .shape .most in (
         (omega arith, (omega arith, (omega arith, cell-width))),
@@ -101,14 +88,14 @@ bits-small (cell ∷ below) left classes h k =
     let here = cell-bits-most (cell .incoming) (cell .group) (cell .outgoing) (cell .width) (cell-of left classes cell (k .0) h) in
     let rest = bits-small below (left - cell .group) (cell .outgoing) (k .0 .shape .most) (k .1) in
     let some = k .0 .shape .some in
-    let within = k .0 .shape .within in
+    let inside = k .0 .shape .inside in
     omega arith
 
 pub card-holds : (card : Card) → WellFormed card → AllHold (cardCommands card)
 unfolding AllHold Holds cardCommands mostVariables mostClasses mostBits
 card-holds card w =
     let n = variables-most (card .n) (w .variables) .1 in
-    let small = value-small (card .offset) (w .offset) in
+    let small = value-mag (card .offset) (w .offset) in
     let one : 1 ≤ mostClasses = lit< tt in
     let bits = bits-small (card .cells) (card .n) 1 one (w .cells) in (
       (omega arith, record { sfits = omega arith }),

@@ -78,7 +78,7 @@ done answer = mapAnswer (λ commands. tt) answer
 -- The steps from a place on decide whether the image is accepted.
 pub record Checking (image : List ℕ) (p : Place) : Type 0 where
   pub bounds : WithinBounds p
-  pub within : p .at ≤ length image
+  pub inside : p .at ≤ length image
   pub steps : ℕ
   pub enough : length image < p .at + steps
   pub decides : done (reading image) ≡ done (readFrom steps image p)
@@ -86,7 +86,7 @@ pub record Checking (image : List ℕ) (p : Place) : Type 0 where
 module _ (image : List ℕ) where
   pub checking-start : Checking image start
   unfolding reading start
-  checking-start = record { bounds = bounds-start; within = omega arith; steps = suc (length image); enough = omega arith; decides = refl }
+  checking-start = record { bounds = bounds-start; inside = omega arith; steps = suc (length image); enough = omega arith; decides = refl }
 
   -- One step of the steps left.
   one-step : (p : Place) → p .at ≤ length image → (steps : ℕ) → length image < p .at + steps → (k : ℕ) × (steps ≡ suc k)
@@ -96,13 +96,13 @@ module _ (image : List ℕ) where
   pub checking-refused : (p : Place) (k : ℕ) → Checking image p → step image p ≡ refused k → done (reading image) ≡ refused k
   unfolding readFrom done
   checking-refused p k h e =
-      let s = one-step p (h .within) (h .steps) (h .enough) in
+      let s = one-step p (h .inside) (h .steps) (h .enough) in
       h .decides ∙ ap (λ n. done (readFrom n image p)) (s .1) ∙ ap (λ a. done (andThen a (λ s′. followedBy (s′ .0) (readFrom (s .0) image (s′ .1))))) e
 
   pub checking-last : (p : Place) (c : Command) (q : Place) → Checking image p → step image p ≡ accepted (c, q) → isEnd c ≡ true → done (reading image) ≡ accepted tt
   unfolding readFrom done
   checking-last p c q h e l =
-      let s = one-step p (h .within) (h .steps) (h .enough) in
+      let s = one-step p (h .inside) (h .steps) (h .enough) in
       h .decides
       ∙ ap (λ n. done (readFrom n image p)) (s .1)
       ∙ ap (λ a. done (andThen a (λ s′. followedBy (s′ .0) (readFrom (s .0) image (s′ .1))))) e
@@ -116,12 +116,12 @@ module _ (image : List ℕ) where
   pub checking-on : (p : Place) (c : Command) (q : Place) → AreBytes image → Checking image p → step image p ≡ accepted (c, q) → isEnd c ≡ false → Checking image q
   unfolding readFrom done
   checking-on p c q bytes h e l =
-      let s = one-step p (h .within) (h .steps) (h .enough) in
+      let s = one-step p (h .inside) (h .steps) (h .enough) in
       let stepped = step-accepted image p c q e in
       let moved = step-moves image p c q stepped in
       record {
         bounds = step-bounds image p c q bytes (h .bounds) stepped;
-        within = moved .1;
+        inside = moved .1;
         steps = s .0;
         enough = (let m = moved .0 in let n = h .enough in let o = s .1 in omega arith);
         decides = (

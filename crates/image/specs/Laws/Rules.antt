@@ -28,12 +28,12 @@ module _ (p : Place) (group incoming outgoing width : ℕ) where
   -- Where the other rules hold, the address width decides.
   pub shape-decides : 1 ≤ group → group ≤ p .left → incoming ≡ p .classes → 1 ≤ outgoing → outgoing ≤ mostClasses → (group ≡ p .left → outgoing ≡ 1) → keepsRules p (Cell group incoming outgoing width) ≡ leb (railWidth incoming + group) widestAddress
   unfolding keepsRules
-  shape-decides some within joined leaving most last =
-      rw (le-leb 1 group some, le-leb group (p .left) within, eq-eqb incoming (p .classes) joined, le-leb 1 outgoing leaving, le-leb outgoing mostClasses most, last-or last within)
+  shape-decides some inside joined leaving most last =
+      rw (le-leb 1 group some, le-leb group (p .left) inside, eq-eqb incoming (p .classes) joined, le-leb 1 outgoing leaving, le-leb outgoing mostClasses most, last-or last inside)
 
   pub shape-test : KeepsShape (p .left) (p .classes) group incoming outgoing → keepsRules p (Cell group incoming outgoing width) ≡ true
   shape-test k =
-      shape-decides (k .some) (k .within) (k .joined) (k .leaving) (k .most) (k .last)
+      shape-decides (k .some) (k .inside) (k .joined) (k .leaving) (k .most) (k .last)
       ∙ le-leb (railWidth incoming + group) widestAddress (k .address)
 
   pub shape-facts : keepsRules p (Cell group incoming outgoing width) ≡ true → KeepsShape (p .left) (p .classes) group incoming outgoing
@@ -47,7 +47,7 @@ module _ (p : Place) (group incoming outgoing width : ℕ) where
       let s1 = both (leb 1 group) (leb group (p .left)) (s2 .0) in
       record {
         some = leb-true 1 group (s1 .0);
-        within = leb-true group (p .left) (s1 .1);
+        inside = leb-true group (p .left) (s1 .1);
         joined = eqb-true incoming (p .classes) (s2 .1);
         leaving = leb-true 1 outgoing (s3 .1);
         most = leb-true outgoing mostClasses (s4 .1);

@@ -12,7 +12,8 @@ use lib.IntN.{ℤ, pos}
 use borrow.Author.Tests.{lt-ltb, le-ltb, eq-eqb, ne-eqb}
 use Rattle.numbers.specs.Answers.{Answer, accepted, refused, unless, bufferAfter}
 use Rattle.numbers.specs.Lists.{numbersFrom}
-use Rattle.numbers.specs.Laws.Lists.{length-range, range-suc}
+use Rattle.numbers.specs.Laws.Answers.{map-refused}
+use Rattle.numbers.specs.Laws.Lists.{length-range, range-suc, map-append}
 use Rattle.image.specs.Cells.{Card}
 use Rattle.image.specs.Inner.Evaluation.{Accepted, cardRead, valuesTo}
 use Rattle.image.specs.Run.{Expands, runCard, run, cardValues, expand, expandBuffer, expanded}
@@ -24,11 +25,6 @@ use Rattle.image.specs.declared.Expanded.the-variants as expanded-varian
 
 -- ---- what a check says
 
-done-refused : (answer : Answer (List Command)) (k : ℕ) → done answer ≡ refused k → answer ≡ refused k
-unfolding done
-done-refused (accepted commands) k h = absurd (let z : _≡_ {A = ℕ} 0 1 = cc in omega arith)
-done-refused (refused j) k h = let e : j ≡ k = cc in ap refused e
-
 done-accepted : (answer : Answer (List Command)) → done answer ≡ accepted tt → (commands : List Command) × (answer ≡ accepted commands)
 unfolding done
 done-accepted (accepted commands) h = (commands, refl)
@@ -36,7 +32,8 @@ done-accepted (refused k) h = absurd (let z : _≡_ {A = ℕ} 0 1 = cc in omega 
 
 module _ (image : List ℕ) where
   pub check-refuses : (k : ℕ) → done (reading image) ≡ refused k → reading image ≡ refused k
-  check-refuses k h = done-refused (reading image) k h
+  unfolding done
+  check-refuses k h = map-refused (λ commands. tt) (reading image) k h
 
   pub check-accepts : done (reading image) ≡ accepted tt → Accepted image
   check-accepts h = let r = done-accepted (reading image) h in record { commands = r .0; read = r .1 }
@@ -109,22 +106,21 @@ expands-table image a buffer after room e =
 
 -- The first so many values are written, the rest is as it was.
 pub record Filled (card : Card) (before after : List ℤ) (x : ℕ) : Type 0 where
-  pub within : x ≤ length before
+  pub inside : x ≤ length before
   pub same : length after ≡ length before
   pub written : after ≡ valuesTo card x ++ drop x before
 
 values-suc : (card : Card) (x : ℕ) → valuesTo card (suc x) ≡ valuesTo card x ++ runCard card x .value ∷ []
 unfolding valuesTo
-values-suc card x = ap (map (λ x. runCard card x .value)) (range-suc 0 x) ∙ map-append (numbersFrom 0 x) ((0 + x) ∷ []) ∙ ap (λ n. map (λ x. runCard card x .value) (numbersFrom 0 x) ++ runCard card n .value ∷ []) (zero-add x)
-  where
-    map-append : (l m : List ℕ) → map (λ x. runCard card x .value) (l ++ m) ≡ map (λ x. runCard card x .value) l ++ map (λ x. runCard card x .value) m
-    map-append [] m = refl
-    map-append (y ∷ l) m = ap (λ k. runCard card y .value ∷ k) (map-append l m)
+values-suc card x =
+    ap (map (λ x. runCard card x .value)) (range-suc 0 x)
+    ∙ map-append (λ x. runCard card x .value) (numbersFrom 0 x) ((0 + x) ∷ [])
+    ∙ ap (λ n. map (λ x. runCard card x .value) (numbersFrom 0 x) ++ runCard card n .value ∷ []) (zero-add x)
 
 module _ (card : Card) (before after : List ℤ) where
   pub filled-none : Filled card before before 0
   unfolding valuesTo numbersFrom
-  filled-none = record { within = omega arith; same = refl; written = refl }
+  filled-none = record { inside = omega arith; same = refl; written = refl }
 
   pub filled-more : (x : ℕ) → x < length before → Filled card before after x → Filled card before (set after x (runCard card x .value)) (x + 1)
   filled-more x h f =
@@ -135,13 +131,13 @@ module _ (card : Card) (before after : List ℤ) where
       ∙ ap (λ l. l ++ drop (suc x) before) (sym (values-suc card x))
       ∙ ap (λ n. valuesTo card n ++ drop n before) (sym (add-one x)) in
       record {
-        within = omega arith;
+        inside = omega arith;
         same = ap length now ∙ length-append (valuesTo card (x + 1)) (drop (x + 1) before) ∙ ap₂ _+_ (length-values card (x + 1)) (length-drop (x + 1) before) ∙ (let e : x + 1 + (length before - (x + 1)) ≡ length before = omega arith in e);
         written = now;
       }
 
   pub filled-all : (x : ℕ) → length before ≤ x → Filled card before after x → after ≡ valuesTo card (length before)
   filled-all x h f =
-      let w = f .within in
+      let w = f .inside in
       let e : x ≡ length before = omega arith in
       f .written ∙ ap (λ n. valuesTo card n ++ drop n before) e ∙ ap (λ l. valuesTo card (length before) ++ l) (drop-length before) ∙ append-nil (valuesTo card (length before))

@@ -1,13 +1,13 @@
 -- One step of the reader, case by case.
 use Prim.Native.Nat.{ℕ, _+_, _≤_, _<_}
 use mathlib.Core.Path.{_≡_, refl, sym, _∙_, ap}
-use mathlib.Core.Bool.{Bool, true, false}
+use mathlib.Core.Bool.{true, false}
 use mathlib.Core.List.{List}
-use native.Mathlib.Omega.{arith}
 use lib.Dec.{ltb, leb, eqb}
 use lib.ListN.{length, getD}
 use borrow.Author.Tests.{leb-true, eqb-true, lt-ltb, le-ltb, le-leb, lt-leb, eq-eqb, ne-eqb}
-use Rattle.numbers.specs.Answers.{Answer, accepted, refused, unless}
+use Rattle.numbers.specs.Answers.{accepted, refused}
+use Rattle.numbers.specs.Laws.Answers.{unless-accepted}
 use Rattle.image.specs.Inner.Kinds.{kindOf}
 use Rattle.image.specs.Reader.{Due, table, cell, word, end, due, dueByte, dueSize, commandAt, keepsRules, placeAfter, widthIsLeast, endsWell, judged, step}
 use Rattle.image.specs.declared.Command.{Command}
@@ -44,11 +44,6 @@ module _ (image : List ℕ) (p : Place) where
   pub judged-accepted : (c : Command) → keepsRules p c ≡ true → endsWell image p c ≡ true → judged image p c ≡ accepted (c, placeAfter p c)
   unfolding judged
   judged-accepted c k e = rw (k, e)
-
--- Where an order of checks accepts, each test passes.
-pub unless-accepted : {A : Type 0} (b : Bool) (k : ℕ) (rest : Answer A) (a : A) → unless b k rest ≡ accepted a → (b ≡ true) × (rest ≡ accepted a)
-unless-accepted true k rest a h = (refl, h)
-unless-accepted false k rest a h = absurd (let z : _≡_ {A = ℕ} 0 1 = cc in omega arith)
 
 -- What an accepted step tells: the command stands at the place, is due there and keeps its rules.
 pub record Stepped (image : List ℕ) (p : Place) (c : Command) (next : Place) : Type 0 where

@@ -7,8 +7,10 @@ use native.Mathlib.Omega.{arith}
 use lib.Dec.{eqb}
 use lib.ListN.{length, getD}
 use lib.IntN.{ℤ, pos}
+use borrow.Author.Tests.{eqb-true}
 use Rattle.numbers.specs.Answers.{Answer, accepted, refused, mapAnswer, andThen, unless}
 use Rattle.numbers.specs.Lists.{numbersFrom}
+use Rattle.numbers.specs.Laws.Answers.{unless-accepted}
 use Rattle.numbers.specs.Laws.Lists.{length-range, getD-range, getD-map}
 use Rattle.image.specs.Cells.{Cell, Card}
 use Rattle.image.specs.Commands.{cardOf}
@@ -17,7 +19,6 @@ use Rattle.image.specs.Reader.{reading}
 use Rattle.image.specs.Run.{Result, runFrom, runCard, run, cardValues, expand}
 use Rattle.image.specs.Laws.Evaluating.{is-card}
 use Rattle.image.specs.Laws.Running.{run-value, length-values}
-use Rattle.image.specs.Laws.Steps.{unless-accepted}
 use Rattle.image.specs.declared.Command.{Command}
 
 from-words : (left : ℕ) (cells : List Cell) (x class : ℕ) (result : Result) → runFrom left cells x class result .words ≡ result .words + length cells
@@ -38,17 +39,22 @@ run-of-card image commands h x l =
 
 -- ---- Expand's entries
 
--- An accepted Expand: the commands that were read, and the values.
-record Expansion (image : List ℕ) (values : List ℤ) : Type 0 where
-  commands : List Command
-  read : reading image ≡ accepted commands
-  same : values ≡ cardValues (cardOf commands)
+-- An accepted Expand: the commands that were read, the buffer's length, and the values.
+pub record Expansion (image : List ℕ) (room : ℕ) (values : List ℤ) : Type 0 where
+  pub commands : List Command
+  pub read : reading image ≡ accepted commands
+  pub fits : room ≡ 2 ^ cardOf commands .n
+  pub same : values ≡ cardValues (cardOf commands)
 
-by-reading : (image : List ℕ) (room : ℕ) (values : List ℤ) (answer : Answer (List Command)) → reading image ≡ answer → andThen answer (λ commands. unless (eqb room (2 ^ cardOf commands .n)) 2 (accepted (cardValues (cardOf commands)))) ≡ accepted values → Expansion image values
+by-reading : (image : List ℕ) (room : ℕ) (values : List ℤ) (answer : Answer (List Command)) → reading image ≡ answer → andThen answer (λ commands. unless (eqb room (2 ^ cardOf commands .n)) 2 (accepted (cardValues (cardOf commands)))) ≡ accepted values → Expansion image room values
 by-reading image room values (accepted commands) e h =
     let s = unless-accepted (eqb room (2 ^ cardOf commands .n)) 2 (accepted (cardValues (cardOf commands))) values h in
-    record { commands = commands; read = e; same = (let same : values ≡ cardValues (cardOf commands) = cc (s .1) in same) }
+    record { commands = commands; read = e; fits = eqb-true room (2 ^ cardOf commands .n) (s .0); same = (let same : values ≡ cardValues (cardOf commands) = cc (s .1) in same) }
 by-reading image room values (refused k) e h = absurd (let z : _≡_ {A = ℕ} 0 1 = cc in omega arith)
+
+pub expansion : (image : List ℕ) (room : ℕ) (values : List ℤ) → expand image room ≡ accepted values → Expansion image room values
+unfolding expand
+expansion image room values h = by-reading image room values (reading image) refl h
 
 value-at : (card : Card) (x : ℕ) → x < 2 ^ card .n → getD (cardValues card) x (pos 0) ≡ runCard card x .value
 unfolding cardValues
@@ -56,15 +62,14 @@ value-at card x h =
     getD-map (λ x. runCard card x .value) (numbersFrom 0 (2 ^ card .n)) x 0 (pos 0) (subst (λ n. x < n) (sym (length-range 0 (2 ^ card .n))) h)
     ∙ ap (λ n. runCard card n .value) (getD-range 0 (2 ^ card .n) x 0 h ∙ zero-add x)
 
-values-count : (card : Card) → length (cardValues card) ≡ 2 ^ card .n
+pub values-count : (card : Card) → length (cardValues card) ≡ 2 ^ card .n
 unfolding cardValues valuesTo
 values-count card = length-values card (2 ^ card .n)
 
 -- Expand's entry X is Run's value at X.
 pub expand-entry : (image : List ℕ) (room : ℕ) (values : List ℤ) → expand image room ≡ accepted values → (x : ℕ) → x < length values → mapAnswer (λ result. result .value) (run image x) ≡ accepted (getD values x (pos 0))
-unfolding expand
 expand-entry image room values h x l =
-    let e = by-reading image room values (reading image) refl h in
+    let e = expansion image room values h in
     let card = cardOf (e .commands) in
     let inside : x < 2 ^ card .n = subst (λ n. x < n) (ap length (e .same) ∙ values-count card) l in
     ap (mapAnswer (λ result. result .value)) (run-of-card image (e .commands) (e .read) x inside)

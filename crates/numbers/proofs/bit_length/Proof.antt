@@ -6,13 +6,13 @@ use Rattle.numbers.proofs.bit_length.Statement.{statement}
 use Rattle.numbers.proofs.bit_length.Tie as tie
 
 sub-result : tie.Need-sub-result
-sub-result c = leading-le 32 (c .args .magnitude)
+sub-result c = leading-le 32 (c .args .number)
 
 cast-result : tie.Need-cast-result
 cast-result c = search needs
 
 returns : tie.Need-returns
-returns c = bit-length-zeros 32 (c .args .magnitude) (c .fits .magnitude .fits)
+returns c = bit-length-zeros 32 (c .args .number) (c .fits .number .fits)
 
 pub bit-length-spec : {M : Type 1} → statement M
 bit-length-spec = tie.close (tie.spec sub-result cast-result returns)

@@ -21,6 +21,12 @@ unfolding isValue within
 value-mag (pos a) h = leb-true a 8388607 h
 value-mag (negsuc a) h = leb-true a 8388607 (both (leb a 8388607) true h .0)
 
+-- A weight's magnitude.
+pub weight-mag : (z : ℤ) → isWeight z ≡ true → mag z ≤ 16777215
+unfolding isWeight within
+weight-mag (pos a) h = leb-true a 16777215 h
+weight-mag (negsuc a) h = let l = leb-true a 16777214 (both (leb a 16777214) true h .0) in omega arith
+
 -- A weight, by its size.
 pub weight-of-size : (z : ℤ) → natAbs z ≤ 16777215 → isWeight z ≡ true
 unfolding isWeight within

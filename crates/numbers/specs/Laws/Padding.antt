@@ -1,11 +1,14 @@
--- A list in an array of more places: its length, its front, one place more, and a new last entry.
+-- A list in an array of more places: its length, its front, one place more, a new last entry, and each entry.
 use Prim.Native.Nat.{ℕ, suc, _+_, _-_, _≤_, _<_}
 use mathlib.Core.Path.{_≡_, sym, _∙_, ap}
 use mathlib.Core.List.{List, [], _∷_, _++_, append-assoc}
 use native.Mathlib.Omega.{arith}
-use lib.ListN.{length, take, set, replicate, length-append, length-replicate, replicate-append-replicate}
-use lib.Seq.{take-append-seam, set-append-seam}
+use lib.ListN.{length, getD, take, set, replicate, length-append, getD-replicate, length-replicate, replicate-append-replicate, List·getD-append, List·getD-eq-default}
+use lib.Dec.{ltb}
+use lib.Seq.{take-append-seam, getD-append-add, set-append-seam}
+use borrow.Author.Tests.{ltb-true, ltb-false}
 use Rattle.numbers.specs.Lists.{padded}
+use Rattle.numbers.specs.Laws.Bools.{yes-or-no}
 
 module _ {A : Type 0} (filler : A) where
   pub length-padded : (places : ℕ) (l : List A) → length l ≤ places → length (padded places filler l) ≡ places
@@ -31,3 +34,17 @@ module _ {A : Type 0} (filler : A) where
       ∙ set-append-seam l filler (replicate (places - suc (length l)) filler) a
       ∙ sym (append-assoc l (a ∷ []) (replicate (places - suc (length l)) filler))
       ∙ ap (λ n. l ++ a ∷ [] ++ replicate (places - n) filler) (let e : suc (length l) ≡ length (l ++ a ∷ []) = omega (arith, length-append l (a ∷ [])) in e)
+
+  -- Its entries are the list's, and then the filler.
+  pub padded-entry : (places : ℕ) (l : List A) (c : ℕ) → c < length l → getD (padded places filler l) c filler ≡ getD l c filler
+  unfolding padded
+  padded-entry places l c inside = List·getD-append l (replicate (places - length l) filler) filler c inside
+
+  pub padded-free : (places : ℕ) (l : List A) (c : ℕ) → length l ≤ c → getD (padded places filler l) c filler ≡ filler
+  unfolding padded
+  padded-free places l c past =
+      ap (λ k. getD (l ++ replicate (places - length l) filler) k filler) (let e : c ≡ length l + (c - length l) = omega arith in e)
+      ∙ getD-append-add l (replicate (places - length l) filler) (c - length l) filler
+      ∙ yes-or-no (ltb (c - length l) (places - length l))
+      (λ e. getD-replicate (places - length l) (c - length l) filler filler (ltb-true (c - length l) (places - length l) e))
+      (λ e. List·getD-eq-default (replicate (places - length l) filler) filler (let g = ltb-false (c - length l) (places - length l) e in omega (arith, length-replicate (places - length l) filler)))

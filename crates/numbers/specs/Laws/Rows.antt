@@ -110,3 +110,7 @@ overwritten-front row new = ap (λ k. new ++ drop k row) (zero-add (length new))
 pub overwritten-none : {A : Type 0} (row : List A) (at : ℕ) → overwritten row at [] ≡ row
 unfolding overwritten
 overwritten-none row at = ap (λ k. take at row ++ drop k row) (add-zero at) ∙ take-append-drop at row
+
+-- A new front of a row, and the rest of it.
+pub filled-front : {A : Type 0} (row new : List A) {front : List A} {k : ℕ} → front ≡ new → k ≡ length new → front ++ drop k row ≡ overwritten row 0 new
+filled-front row new e l = ap₂ (λ f k. f ++ drop k row) e l ∙ sym (overwritten-front row new)

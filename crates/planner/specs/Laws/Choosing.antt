@@ -14,14 +14,13 @@ use Rattle.numbers.specs.Lists.{numbersFrom, padded}
 use Rattle.numbers.specs.Ranges.{mostVariables}
 use Rattle.numbers.specs.Laws.Bools.{yes-or-no}
 use Rattle.numbers.specs.Laws.Lists.{length-range, getD-range, getD-map}
-use Rattle.numbers.specs.Laws.Padding.{length-padded}
+use Rattle.numbers.specs.Laws.Padding.{padded-entry, padded-free, length-padded}
 use Rattle.diagram.specs.Accepted.{Accepted}
 use Rattle.cascade.specs.Inner.Choices.{offered, tried, cellPrice, cellFits, costOf, tableChoice, choiceArray}
 use Rattle.cascade.specs.declared.Choice.{Choice}
 use Rattle.cascade.specs.declared.Choice.the-variants.{NoList, Costing}
 use Rattle.cascade.specs.Laws.Cells.{variables-most, cell-bits-most}
 use Rattle.cascade.specs.Laws.Cheapest.{tried-fits, tried-unfit, tried-same, choice-bottom, choice-step, choice-leads}
-use Rattle.planner.specs.Laws.Padding.{padded-entry, padded-free}
 use Rattle.planner.specs.Inner.Ready.{RowsKnown, CellReady, CutReady}
 
 -- ---- the sizes at a cut

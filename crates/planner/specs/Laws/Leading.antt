@@ -10,6 +10,7 @@ use lib.IntN.{ℤ}
 use Rattle.numbers.specs.Lists.{numbersFrom}
 use Rattle.numbers.specs.Ranges.{mostVariables}
 use Rattle.numbers.specs.Widths.{railWidth, cellBits}
+use Rattle.numbers.specs.Laws.Padding.{padded-entry}
 use Rattle.numbers.specs.Laws.Lists.{length-range, getD-range, getD-map}
 use Rattle.blocks.specs.Classes.{classCount}
 use Rattle.blocks.specs.Laws.Places.{length-counts, count-at}
@@ -23,7 +24,6 @@ use Rattle.cascade.specs.declared.Choice.the-variants.{NoList, Costing}
 use Rattle.cascade.specs.Laws.Cells.{variables-most, class-count-most}
 use Rattle.cascade.specs.Laws.Cheapest.{Leads, choice-leads}
 use Rattle.planner.specs.Inner.Listed.{sizeAt, bitsAt, widthOfBits, BitsReady, chosenCell, CellChosen}
-use Rattle.planner.specs.Laws.Padding.{padded-entry}
 
 -- The choice at a cut stands at its place in the array.
 pub array-at : (n limit : ℕ) (table : List ℤ) (h : ℕ) → h ≤ n → getD (choiceArray n table limit) h NoList ≡ tableChoice n table limit h

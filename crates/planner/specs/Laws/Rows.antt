@@ -1,27 +1,21 @@
 -- What Plan leaves in the rows that it works in.
 use Prim.Native.Nat.{ℕ, _^_}
-use mathlib.Core.Path.{_≡_, sym, _∙_, ap₂}
+use mathlib.Core.Path.{_≡_, sym, _∙_}
 use mathlib.Core.Bool.{true, false, _&&_}
-use mathlib.Core.List.{List, _++_}
+use mathlib.Core.List.{List}
 use native.Mathlib.Omega.{arith}
-use lib.ListN.{length, drop}
+use lib.ListN.{length}
 use lib.Dec.{eqb}
 use lib.IntN.{ℤ}
 use borrow.Author.Tests.{eqb-true, eq-eqb}
 use Rattle.numbers.specs.Answers.{Answer, accepted, refused}
 use Rattle.numbers.specs.Lists.{every}
 use Rattle.numbers.specs.Ranges.{isVariables, isValue, isLimit}
-use Rattle.numbers.specs.Inner.Rows.{overwritten}
 use Rattle.numbers.specs.Laws.Bools.{yes-or-no, both}
-use Rattle.numbers.specs.Laws.Rows.{overwritten-front}
 use Rattle.diagram.specs.Accepted.{Accepted}
 use Rattle.diagram.specs.Inner.Checks.{tableChecks}
 use Rattle.diagram.specs.Laws.Builds.{table-passes}
 use Rattle.planner.specs.Inner.Rows.{isClassed, RowsFilled, RowsLeft}
-
--- A new front of a row, and the rest of it.
-pub filled-front : {A : Type 0} (row new : List A) {front : List A} {k : ℕ} → front ≡ new → k ≡ length new → front ++ drop k row ≡ overwritten row 0 new
-filled-front row new e l = ap₂ (λ f k. f ++ drop k row) e l ∙ sym (overwritten-front row new)
 
 module _ (n : ℕ) (table : List ℤ) (limit : ℕ) {classRow firstRow countRow : List ℕ} where
   -- All checks pass, and the rows are filled.

@@ -9,7 +9,7 @@ class-cuts-requires : tie.Need-class-cuts-requires
 unfolding mostVariables
 class-cuts-requires c κs =
     let r = c .before .before .before .before .before .before .pre in
-    (record { variables = variables-range _ (r .admitted .variables) .1; whole = r .admitted .size; classRow = r .classPlaces; firstRow = r .firstPlaces }, r .countPlaces)
+    (record { variables = variables-range _ (r .admitted .variables) .1; whole = r .admitted .size; classPlaces = r .classPlaces; firstPlaces = r .firstPlaces }, r .countPlaces)
 
 write-records-requires : tie.Need-write-records-requires
 write-records-requires c κs = search needs

@@ -15,30 +15,30 @@ use Rattle.image.specs.Laws.Evaluating.{command-room, group-narrow, grou
 use Rattle.image.proofs.evaluation.read_cell.Statement.{statement}
 use Rattle.image.proofs.evaluation.read_cell.Tie as tie
 
-is-group : (c : tie.After-read-one) → c .read-one .result ≡ groupAhead (c .before .before .args .image .now) (c .before .before .args .walk)
+is-group : (c : tie.After-read-one) → c .read-one .result ≡ groupAhead (c .before .before .args .image .now) (c .before .before .args .progress)
 unfolding groupAhead
 is-group c = c .read-one .ensures .read
 
-size : (c : tie.After-read-one) → (1 * 2 ^ c .read-one .result) % 18446744073709551616 ≡ 2 ^ groupAhead (c .before .before .args .image .now) (c .before .before .args .walk)
-size c = let s = c .before .before in group-size (s .args .image .now) (s .args .x) (s .args .walk) (s .pre) (c .read-one .result) (is-group c)
+size : (c : tie.After-read-one) → (1 * 2 ^ c .read-one .result) % 18446744073709551616 ≡ 2 ^ groupAhead (c .before .before .args .image .now) (c .before .before .args .progress)
+size c = let s = c .before .before in group-size (s .args .image .now) (s .args .x) (s .args .progress) (s .pre) (c .read-one .result) (is-group c)
 
-room : (s : tie.Start) → s .args .walk .at + 7 ≤ length (s .args .image .now)
-room s = command-room (s .args .image .now) (s .args .x) (s .args .walk) (s .pre)
+room : (s : tie.Start) → s .args .progress .at + 7 ≤ length (s .args .image .now)
+room s = command-room (s .args .image .now) (s .args .x) (s .args .progress) (s .pre)
 
 -- The next cell begins within the image.
-inside : (c : tie.After-read-two) → (let s = c .before .before .before in s .args .walk .at + 7 + 7 * (c .read-two .result * 2 ^ groupAhead (s .args .image .now) (s .args .walk)) ≤ length (s .args .image .now))
+inside : (c : tie.After-read-two) → (let s = c .before .before .before in s .args .progress .at + 7 + 7 * (c .read-two .result * 2 ^ groupAhead (s .args .image .now) (s .args .progress)) ≤ length (s .args .image .now))
 unfolding nextPlace
 inside c = rw (c .read-two .ensures .read) (c .before .before .before .pre .next)
 
 -- The sum, with the weight of the word that was read.
 total : (c : tie.After-struct-told)
     → (let s = c .before .before .before .before .before .before .before .before .before in
-    toZ w32 (ofZ w32 (s .args .walk .value)) +ℤ toZ w32 (ofZ w32 (c .before .before .before .read-signed .result)) ≡ s .args .walk .value +ℤ signedAt (s .args .image .now) (wordPlace (s .args .image .now) (s .args .x) (s .args .walk) + 3))
+    toZ w32 (ofZ w32 (s .args .progress .value)) +ℤ toZ w32 (ofZ w32 (c .before .before .before .read-signed .result)) ≡ s .args .progress .value +ℤ signedAt (s .args .image .now) (wordPlace (s .args .image .now) (s .args .x) (s .args .progress) + 3))
 total c =
     let s = c .before .before .before .before .before .before .before .before .before in
     let read = c .before .before .before .read-signed in
     ap₂ _+ℤ_
-    (toZ-ofZ {w = w32} {z = s .args .walk .value} (record { sfits = c .struct-told .given .1 .1 .1 .0 .1 }))
+    (toZ-ofZ {w = w32} {z = s .args .progress .value} (record { sfits = c .struct-told .given .1 .1 .1 .0 .1 }))
     (toZ-ofZ {w = w32} {z = read .result} (record { sfits = read .ok }) ∙ read .ensures ∙ ap (λ n. signedAt (s .args .image .now) (n + 3)) (c .before .before .before .before .before .word-place .ensures))
 
 add-read-one : tie.Need-add-read-one
@@ -72,7 +72,7 @@ add-t10 : tie.Need-add-t10
 add-t10 c = fits-of-lt (let r = room (c .before .before .before .before .before .before) in let g = c .before .before .before .before .before .before .good .0 .1 in omega arith)
 
 shl-t11 : tie.Need-shl-t11
-shl-t11 c = let d = c .before .before .before .before in let s = d .before .before in group-narrow (s .args .image .now) (s .args .x) (s .args .walk) (s .pre) (d .read-one .result) (is-group d)
+shl-t11 c = let d = c .before .before .before .before in let s = d .before .before in group-narrow (s .args .image .now) (s .args .x) (s .args .progress) (s .pre) (d .read-one .result) (is-group d)
 
 mul-t12 : tie.Need-mul-t12
 mul-t12 c = rw (size (c .before .before .before .before)) (fits-of-lt (let h = inside (c .before .before .before) in let g = c .before .before .before .before .before .before .good .0 .1 in omega arith))
@@ -84,7 +84,7 @@ add-t14 : tie.Need-add-t14
 add-t14 c = rw (size (c .before .before .before .before)) (fits-of-lt (let h = inside (c .before .before .before) in let g = c .before .before .before .before .before .before .good .0 .1 in omega arith))
 
 sub-t15 : tie.Need-sub-t15
-sub-t15 c = let e = is-group (c .before .before .before .before .before) in let w = c .before .before .before .before .before .before .before .pre .within in omega arith
+sub-t15 c = let e = is-group (c .before .before .before .before .before) in let w = c .before .before .before .before .before .before .before .pre .inside in omega arith
 
 add-t16 : tie.Need-add-t16
 add-t16 c = rw (total c) (record { sfits = c .before .before .before .before .before .before .before .before .before .pre .small })

@@ -11,22 +11,22 @@ use Rattle.image.specs.Laws.Evaluating.{command-room, group-narrow, grou
 use Rattle.image.proofs.evaluation.word_place.Statement.{statement}
 use Rattle.image.proofs.evaluation.word_place.Tie as tie
 
-is-group : (c : tie.After-read-one) → c .read-one .result ≡ groupAhead (c .before .before .args .image .now) (c .before .before .args .walk)
+is-group : (c : tie.After-read-one) → c .read-one .result ≡ groupAhead (c .before .before .args .image .now) (c .before .before .args .progress)
 unfolding groupAhead
 is-group c = c .read-one .ensures .read
 
-size : (c : tie.After-read-one) → (1 * 2 ^ c .read-one .result) % 18446744073709551616 ≡ 2 ^ groupAhead (c .before .before .args .image .now) (c .before .before .args .walk)
-size c = let s = c .before .before in group-size (s .args .image .now) (s .args .x) (s .args .walk) (s .pre) (c .read-one .result) (is-group c)
+size : (c : tie.After-read-one) → (1 * 2 ^ c .read-one .result) % 18446744073709551616 ≡ 2 ^ groupAhead (c .before .before .args .image .now) (c .before .before .args .progress)
+size c = let s = c .before .before in group-size (s .args .image .now) (s .args .x) (s .args .progress) (s .pre) (c .read-one .result) (is-group c)
 
-room : (s : tie.Start) → s .args .walk .at + 7 ≤ length (s .args .image .now)
-room s = command-room (s .args .image .now) (s .args .x) (s .args .walk) (s .pre)
+room : (s : tie.Start) → s .args .progress .at + 7 ≤ length (s .args .image .now)
+room s = command-room (s .args .image .now) (s .args .x) (s .args .progress) (s .pre)
 
-value : (c : tie.After-group-value) → (let s = c .before .before .before in c .group-value .result ≡ groupValue (s .args .walk .left) (groupAhead (s .args .image .now) (s .args .walk)) (s .args .x))
-value c = let s = c .before .before .before in c .group-value .ensures ∙ ap (λ g. groupValue (s .args .walk .left) g (s .args .x)) (is-group (c .before))
+value : (c : tie.After-group-value) → (let s = c .before .before .before in c .group-value .result ≡ groupValue (s .args .progress .left) (groupAhead (s .args .image .now) (s .args .progress)) (s .args .x))
+value c = let s = c .before .before .before in c .group-value .ensures ∙ ap (λ g. groupValue (s .args .progress .left) g (s .args .x)) (is-group (c .before))
 
 -- The word lies within the image.
 inside : (s : tie.Start)
-    → (let group = groupAhead (s .args .image .now) (s .args .walk) in s .args .walk .at + 7 + 7 * (s .args .walk .class * 2 ^ group + groupValue (s .args .walk .left) group (s .args .x)) + 7 ≤ length (s .args .image .now))
+    → (let group = groupAhead (s .args .image .now) (s .args .progress) in s .args .progress .at + 7 + 7 * (s .args .progress .class * 2 ^ group + groupValue (s .args .progress .left) group (s .args .x)) + 7 ≤ length (s .args .image .now))
 unfolding wordPlace
 inside s = s .pre .word
 
@@ -38,13 +38,13 @@ read-one-requires c κs = let r = room (c .before) in omega arith
 
 group-value-requires : tie.Need-group-value-requires
 unfolding mostVariables
-group-value-requires c κs = let e = is-group c in let w = c .before .before .pre .within in let f = c .before .before .pre .few in (omega arith, omega arith)
+group-value-requires c κs = let e = is-group c in let w = c .before .before .pre .inside in let f = c .before .before .pre .few in (omega arith, omega arith)
 
 add-result : tie.Need-add-result
 add-result c = fits-of-lt (let r = room (c .before .before .before) in let g = c .before .before .before .good .0 .1 in omega arith)
 
 shl-result : tie.Need-shl-result
-shl-result c = let d = c .before in let s = d .before .before in group-narrow (s .args .image .now) (s .args .x) (s .args .walk) (s .pre) (d .read-one .result) (is-group d)
+shl-result c = let d = c .before in let s = d .before .before in group-narrow (s .args .image .now) (s .args .x) (s .args .progress) (s .pre) (d .read-one .result) (is-group d)
 
 mul-result : tie.Need-mul-result
 mul-result c = rw (size (c .before .before)) (fits-of-lt (let h = inside (c .before .before .before .before) in let g = c .before .before .before .before .good .0 .1 in omega arith))

@@ -19,18 +19,18 @@ shape s = shape-facts (s .args .place) (s .args .group) (s .args .incoming) (s .
 
 fits-cell : (s : tie.Start) → CellFits (s .args .incoming) (s .args .group) (s .args .outgoing) (s .args .width)
 unfolding widthOf
-fits-cell s = cell-fits (s .args .place) (s .args .group) (s .args .incoming) (s .args .outgoing) (s .args .width) (s .pre .due .bounds) (s .pre .rules) (s .pre .due .width)
+fits-cell s = cell-fits (s .args .place) (s .args .group) (s .args .incoming) (s .args .outgoing) (s .args .width) (s .pre .isDue .bounds) (s .pre .rules) (s .pre .isDue .width)
 
 -- A group is narrower than a machine word.
 narrow : (s : tie.Start) → s .args .group < 64
 unfolding mostVariables
-narrow s = let w = shape s .within in let l = s .pre .due .bounds .left in omega arith
+narrow s = let w = shape s .inside in let l = s .pre .isDue .bounds .left in omega arith
 
 add-t6 : tie.Need-add-t6
 add-t6 c = search needs
 
 sub-t7 : tie.Need-sub-t7
-sub-t7 c = shape (c .before .before) .within
+sub-t7 c = shape (c .before .before) .inside
 
 shl-t8 : tie.Need-shl-t8
 shl-t8 c = narrow (c .before .before)
@@ -48,7 +48,7 @@ add-t11 c =
     let a = s .args in
     let m = cell-bits-most (a .incoming) (a .group) (a .outgoing) (a .width) (fits-cell s) in
     let e = c .before .cell-bits .ensures in
-    let b = s .pre .due .bounds .bits in
+    let b = s .pre .isDue .bounds .bits in
     fits-of-lt (omega arith)
 
 returns : tie.Need-returns

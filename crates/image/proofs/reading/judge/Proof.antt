@@ -12,7 +12,7 @@ ends-well-requires : tie.Need-ends-well-requires
 ends-well-requires c κs = search needs
 
 place-after-requires : tie.Need-place-after-requires
-place-after-requires c κs = record { due = c .before .before .before .before .before .pre; rules = sym (c .before .before .before .keeps-rules .ensures) ∙ c .before .before .if1 .taken }
+place-after-requires c κs = record { isDue = c .before .before .before .before .before .pre; rules = sym (c .before .before .before .keeps-rules .ensures) ∙ c .before .before .if1 .taken }
 
 returns : tie.Need-returns
 unfolding judged stepped

@@ -9,7 +9,7 @@ class-cuts-requires : tie.Need-class-cuts-requires
 unfolding mostVariables
 class-cuts-requires c κs =
     let r = c .before .before .before .before .before .before .pre in
-    (record { variables = variables-most _ _ (r .admitted); whole = r .admitted .size; classRow = r .classPlaces; firstRow = r .firstPlaces }, r .countPlaces)
+    (record { variables = variables-most _ _ (r .admitted); whole = r .admitted .size; classPlaces = r .classPlaces; firstPlaces = r .firstPlaces }, r .countPlaces)
 
 plan-cuts-requires : tie.Need-plan-cuts-requires
 plan-cuts-requires c κs = search needs

@@ -1,8 +1,8 @@
--- `planner::planning::is_limit` meets its contract. Assumes nothing.
+-- `numbers::is_limit` meets its contract. Assumes nothing.
 use borrow.Author.Tests.{le-leb, lt-leb}
 use Rattle.numbers.specs.Ranges.{isLimit, widestAddress}
-use Rattle.planner.proofs.planning.is_limit.Statement.{statement}
-use Rattle.planner.proofs.planning.is_limit.Tie as tie
+use Rattle.numbers.proofs.is_limit.Statement.{statement}
+use Rattle.numbers.proofs.is_limit.Tie as tie
 
 returns : tie.Need-returns
 unfolding isLimit

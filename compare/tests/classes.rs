@@ -1,10 +1,8 @@
 //! The classes of all cuts, row by row.
 
-mod common;
-
-use common::{tables, Random};
 use panstrait_compare::proved;
 use panstrait_reference as reference;
+use panstrait_samples::{tables, Random};
 
 /// What the rows are filled with before a call.
 const PLACE: usize = 0x5EED_1234_5678;
@@ -83,7 +81,7 @@ fn structured_tables() {
 #[test]
 fn tables_that_are_hard_to_tell_apart() {
     for n in 1..=12 {
-        for table in common::adversarial(n) {
+        for table in tables::adversarial(n) {
             same_rows(n, &table);
         }
     }

@@ -1,11 +1,9 @@
 //! Build: node count, offset, the records, and what is left of the buffer.
 
-mod common;
-
-use common::{node_numbers, tables, Random, GREATEST, LEAST, NUMBER};
 use panstrait_compare::answers;
 use panstrait_reference as reference;
 use panstrait_reference::Refusal;
+use panstrait_samples::{node_numbers, tables, Random, GREATEST, LEAST, NUMBER};
 
 /// Both programs' answers for a buffer of so many numbers, compared whole, with
 /// the numbers before and after it.
@@ -36,7 +34,7 @@ fn structured_tables() {
 #[test]
 fn tables_that_are_hard_to_tell_apart() {
     for n in 1..=12 {
-        common::adversarial(n).iter().for_each(|t| built(n, t));
+        tables::adversarial(n).iter().for_each(|t| built(n, t));
     }
 }
 
@@ -66,7 +64,7 @@ fn all_small_tables() {
 #[test]
 fn room_beyond_what_is_needed() {
     for n in 1..=12 {
-        for table in [common::all_different(n), tables::of(n, |_| -3)] {
+        for table in [tables::all_different(n), tables::of(n, |_| -3)] {
             for more in [0, 1, 2, 3, 4, 5, 8, 1_000] {
                 assert_eq!(same_build(n, &table, node_numbers(n) + more), Ok(()));
             }
@@ -115,7 +113,7 @@ fn values_out_of_range() {
 fn buffers_that_are_too_short() {
     for n in 1..=12 {
         let room = node_numbers(n);
-        for table in [common::all_different(n), tables::of(n, |_| 9)] {
+        for table in [tables::all_different(n), tables::of(n, |_| 9)] {
             for short in [0, 1, room / 2, room - 4, room - 1] {
                 assert_eq!(same_build(n, &table, short), Err(4));
             }

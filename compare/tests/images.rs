@@ -1,12 +1,10 @@
-//! Run and Expand: images that the second program compiles, others that pass,
-//! and damaged ones.
+//! Run and Expand: images of tables, others that pass, and damaged ones.
 
-mod common;
-
-use common::{drafts, figure_draft, tables, Cascade, Draft, Random, NUMBER};
 use panstrait_compare::answers;
 use panstrait_reference as reference;
 use panstrait_reference::{Ran, Refusal};
+use panstrait_samples::{drafts, figure_draft, tables, Cascade, Draft, Random, NUMBER};
+use std::ops::RangeInclusive;
 
 /// Both programs' answers at X.
 fn same_run(image: &[u8], x: usize) -> Result<Ran, Refusal> {
@@ -53,16 +51,24 @@ fn gives_back(image: &[u8], table: &[i32], cells: usize, inputs: impl Iterator<I
     }
 }
 
+/// The images of a table's chosen groupings within some limits.
+fn chosen_drafts(n: usize, table: &[i32], limits: RangeInclusive<usize>) -> Vec<Draft> {
+    let cascade = Cascade::new(n, table);
+    let costs = cascade.costs();
+    limits
+        .filter_map(|limit| cascade.chosen(&costs, limit))
+        .map(|(_, sizes)| cascade.draft(&sizes))
+        .collect()
+}
+
 #[test]
 fn compiled_images() {
     let mut random = Random(31);
     for n in 1..=8 {
-        for table in common::tables_of(n, &mut random, 12) {
-            for limit in 1..=12 {
-                if let Ok((compiled, image)) = common::compiled(n, &table, limit) {
-                    let inputs = (0..1 << n).step_by(1 + random.below(n));
-                    gives_back(&image, &table, compiled.plan.cells.len(), inputs);
-                }
+        for table in tables::all(n, &mut random, 12) {
+            for draft in chosen_drafts(n, &table, 1..=12) {
+                let inputs = (0..1 << n).step_by(1 + random.below(n));
+                gives_back(&draft.bytes(), &table, draft.cells.len(), inputs);
             }
         }
     }
@@ -72,10 +78,11 @@ fn compiled_images() {
 fn large_compiled_images() {
     let mut random = Random(32);
     for n in 9..=12 {
-        for table in common::tables_of(n, &mut random, 4) {
-            let (compiled, image) = common::compiled(n, &table, 12).expect("one wide cell fits");
-            let inputs = (0..10).map(|_| random.below(1 << n));
-            gives_back(&image, &table, compiled.plan.cells.len(), inputs);
+        for table in tables::all(n, &mut random, 4) {
+            for draft in chosen_drafts(n, &table, 12..=12) {
+                let inputs = (0..10).map(|_| random.below(1 << n));
+                gives_back(&draft.bytes(), &table, draft.cells.len(), inputs);
+            }
         }
     }
 }
@@ -83,7 +90,7 @@ fn large_compiled_images() {
 /// Groupings that need not be the chosen ones, over the table with the most
 /// classes.
 fn large_drafts() -> Vec<Draft> {
-    let table = common::all_different(12);
+    let table = tables::all_different(12);
     let cascade = Cascade::new(12, &table);
     let groupings: [&[usize]; 6] = [
         &[12],
@@ -98,7 +105,7 @@ fn large_drafts() -> Vec<Draft> {
 
 #[test]
 fn inputs_of_large_images() {
-    let table = common::all_different(12);
+    let table = tables::all_different(12);
     for draft in large_drafts() {
         let image = draft.bytes();
         let inputs = (0..table.len()).step_by(37).chain([4_095]);

@@ -1,10 +1,8 @@
 //! Rail widths and weight widths.
 
-mod common;
-
-use common::Random;
 use panstrait_compare::proved;
 use panstrait_reference as reference;
+use panstrait_samples::Random;
 
 /// Numbers around every power of two up to 2^32.
 fn around_powers() -> impl Iterator<Item = i64> {

@@ -4,6 +4,7 @@ mod common;
 
 use common::*;
 use panstrait_reference::*;
+use panstrait_samples::*;
 
 const FIGURE_CELLS: [[usize; 5]; 3] = [[2, 1, 2, 4, 20], [1, 2, 2, 2, 12], [1, 2, 1, 2, 8]];
 

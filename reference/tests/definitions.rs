@@ -4,7 +4,7 @@ mod common;
 
 use common::*;
 use panstrait_reference::*;
-use tables::Random;
+use panstrait_samples::*;
 
 #[test]
 fn classes_of_the_figure() {

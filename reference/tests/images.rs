@@ -1,9 +1,7 @@
 //! The reader: each command and operand rule, broken, and their order.
 
-mod common;
-
-use common::*;
 use panstrait_reference::*;
+use panstrait_samples::*;
 
 /// What Run and Expand both say of an image.
 fn refusal(image: &[u8]) -> Option<Refusal> {

@@ -4,6 +4,7 @@ mod common;
 
 use common::*;
 use panstrait_reference::listing;
+use panstrait_samples::*;
 use std::io::Write;
 use std::process::{Command, Stdio};
 

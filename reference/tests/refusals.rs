@@ -1,9 +1,7 @@
 //! Every refusal of every operation, their order, and untouched buffers.
 
-mod common;
-
-use common::*;
 use panstrait_reference::*;
+use panstrait_samples::*;
 
 const HUGE: [usize; 3] = [13, 64, usize::MAX];
 

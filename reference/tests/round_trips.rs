@@ -2,10 +2,9 @@
 
 mod common;
 
-use common::oracle::Cascade;
-use common::tables::Random;
 use common::*;
 use panstrait_reference::*;
+use panstrait_samples::*;
 
 /// Every X, or for large n a spread of them with both ends.
 fn inputs(n: usize) -> Vec<usize> {
@@ -30,6 +29,10 @@ fn check_diagram(n: usize, table: &[i32]) {
     }
 }
 
+fn groups(planned: &Planned) -> Vec<usize> {
+    planned.cells.iter().map(|cell| cell.group).collect()
+}
+
 /// Plan and Compile against the dynamic programme, for every limit.
 fn check_groupings(n: usize, table: &[i32]) {
     let cascade = Cascade::new(n, table);
@@ -38,17 +41,16 @@ fn check_groupings(n: usize, table: &[i32]) {
     for limit in 1..=12 {
         let expected = cascade.chosen(&costs, limit);
         let planned = plan(n, table, limit);
-        let Some((bits, sizes)) = expected.clone() else {
+        if let Some((bits, sizes)) = &expected {
+            let planned = planned.expect("a grouping fits");
+            assert_eq!((planned.bits, &groups(&planned)), (*bits, sizes));
+            if last != expected {
+                check_image(n, table, limit, &planned, cascade.draft(sizes));
+            }
+        } else {
             assert_eq!(planned, Err(9));
-            continue;
-        };
-        let planned = planned.expect("a grouping fits");
-        let groups: Vec<usize> = planned.cells.iter().map(|cell| cell.group).collect();
-        assert_eq!((planned.bits, &groups), (bits, &sizes));
-        if last != expected {
-            check_image(n, table, limit, &planned, cascade.draft(&sizes));
-            last = expected;
         }
+        last = expected;
     }
     assert!(last.is_some(), "one cell always fits limit 12");
 }
@@ -157,18 +159,14 @@ fn equal_costs_occur_and_are_settled() {
         let table = tables::of(n, |_| random.between(-2, 1));
         let cascade = Cascade::new(n, &table);
         let costs = cascade.costs();
-        let Some((bits, sizes)) = cascade.chosen(&costs, 12) else {
-            continue;
-        };
+        let (bits, sizes) = cascade.chosen(&costs, 12).expect("one cell fits");
         let equals = groupings(n, &costs)
             .into_iter()
             .filter(|(cost, _)| *cost == bits);
         let equals: Vec<Vec<usize>> = equals.map(|(_, sizes)| sizes).collect();
         ties += usize::from(equals.len() > 1);
         assert_eq!(equals.iter().max(), Some(&sizes));
-        let planned = plan(n, &table, 12).unwrap();
-        let groups: Vec<usize> = planned.cells.iter().map(|cell| cell.group).collect();
-        assert_eq!(groups, sizes);
+        assert_eq!(groups(&plan(n, &table, 12).unwrap()), sizes);
     }
     assert!(ties > 0);
 }

@@ -4,6 +4,7 @@ mod common;
 
 use common::*;
 use panstrait_reference::*;
+use panstrait_samples::*;
 
 /// The figure's records with one number changed.
 fn changed(number: usize, field: usize, value: i32) -> Vec<i32> {

@@ -1,7 +1,96 @@
-//! Images by hand: pseudo-random ones that pass, and ways to damage one.
+//! Images by hand: sound or not, pseudo-random ones that pass, and ways to
+//! damage one.
 
-use super::reference::oracle::{rail, width};
-use super::{Draft, DraftCell, Random, GREATEST, LEAST, MOST_WEIGHT};
+use crate::oracle::{rail, width};
+use crate::{Random, GREATEST, LEAST, MOST_WEIGHT};
+
+/// An image by its operands, sound or not.
+#[derive(Clone)]
+pub struct Draft {
+    pub n: u8,
+    pub offset: i32,
+    pub cells: Vec<DraftCell>,
+    pub bits: u32,
+}
+
+#[derive(Clone)]
+pub struct DraftCell {
+    pub group: u8,
+    pub incoming: u16,
+    pub outgoing: u16,
+    pub width: u8,
+    pub words: Vec<(u16, i32)>,
+}
+
+impl DraftCell {
+    pub fn new(
+        group: u8,
+        incoming: u16,
+        outgoing: u16,
+        width: u8,
+        words: &[(u16, i32)],
+    ) -> DraftCell {
+        DraftCell {
+            group,
+            incoming,
+            outgoing,
+            width,
+            words: words.to_vec(),
+        }
+    }
+}
+
+impl Draft {
+    pub fn bytes(&self) -> Vec<u8> {
+        let mut bytes = vec![0x56, self.n];
+        bytes.extend(self.offset.to_be_bytes());
+        for cell in &self.cells {
+            bytes.extend([0x43, cell.group]);
+            bytes.extend(cell.incoming.to_be_bytes());
+            bytes.extend(cell.outgoing.to_be_bytes());
+            bytes.push(cell.width);
+            for (class, weight) in &cell.words {
+                bytes.push(0x57);
+                bytes.extend(class.to_be_bytes());
+                bytes.extend(weight.to_be_bytes());
+            }
+        }
+        bytes.push(0x45);
+        bytes.extend(self.bits.to_be_bytes());
+        bytes
+    }
+
+    /// Where the command bytes of `bytes` stand.
+    pub fn command_places(&self) -> Vec<usize> {
+        let mut places = vec![0];
+        let mut place = 6;
+        for cell in &self.cells {
+            places.push(place);
+            place += 7;
+            for _ in &cell.words {
+                places.push(place);
+                place += 7;
+            }
+        }
+        places.push(place);
+        places
+    }
+}
+
+/// The image of `FIGURE` with address limit 4, worked out by hand.
+pub fn figure_draft() -> Draft {
+    let cell = DraftCell::new;
+    Draft {
+        n: 4,
+        offset: 0,
+        cells: vec![
+            cell(2, 1, 2, 4, &[(0, 0), (1, 1), (1, 4), (0, 7)]),
+            cell(1, 2, 2, 2, &[(0, 0), (0, 0), (0, 0), (1, 1)]),
+            cell(1, 2, 1, 2, &[(0, 0), (0, 0), (0, 0), (0, 1)]),
+        ],
+        bits: 40,
+    }
+}
 
 /// An image that passes every check, of any shape.
 pub fn passing(random: &mut Random) -> Draft {

@@ -1,6 +1,6 @@
 //! Families of tables, structured and pseudo-random with fixed seeds.
 
-use super::{GREATEST, LEAST};
+use crate::{GREATEST, LEAST};
 use std::f64::consts::PI;
 
 /// A small generator of pseudo-random numbers (splitmix64).
@@ -119,4 +119,53 @@ fn joined(pool: &[Vec<i32>], random: &mut Random) -> Vec<i32> {
     };
     block.extend(upper.iter().map(|v| v + shift));
     block
+}
+
+/// Tables whose blocks are hard to tell apart, for every n.
+pub fn adversarial(n: usize) -> Vec<Vec<i32>> {
+    let mut all = vec![
+        all_different(n),
+        // Blocks repeat with period 3, so that no half equals the other.
+        of(n, |x| (x % 3) as i32),
+        // One value differs, the first or the middle one.
+        of(n, |x| i32::from(x == 0)),
+        of(n, |x| i32::from(x == (1 << n) / 2)),
+        // Halves equal up to a shift at one height alone.
+        of(n, |x| {
+            if x >> (n - 1) == 1 {
+                GREATEST - (x & 7) as i32
+            } else {
+                LEAST + (x & 7) as i32
+            }
+        }),
+    ];
+    all.extend((0..=n).map(|height| last_value_differs(n, height)));
+    all
+}
+
+/// No two blocks of one height above 0 have equal differences, and each has a
+/// record.
+pub fn all_different(n: usize) -> Vec<i32> {
+    of(n, |x| (x * (x + 1) / 2) as i32)
+}
+
+/// The blocks of one height agree up to their last value, which is another in
+/// each.
+pub fn last_value_differs(n: usize, height: usize) -> Vec<i32> {
+    let last = (1 << height) - 1;
+    of(n, |x| {
+        if x & last == last {
+            (x >> height) as i32 + 1
+        } else {
+            0
+        }
+    })
+}
+
+/// Structured, adversarial and pseudo-random tables over n variables.
+pub fn all(n: usize, random: &mut Random, count: usize) -> Vec<Vec<i32>> {
+    let mut all = structured(n);
+    all.extend(adversarial(n));
+    all.extend((0..count).map(|_| self::random(n, random)));
+    all
 }

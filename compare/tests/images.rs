@@ -365,7 +365,7 @@ fn the_most_classes() {
         draft.cells[0].outgoing = outgoing;
         draft.cells[1].incoming = outgoing;
         draft.cells[1].words = vec![(0, 0); 2 * usize::from(outgoing)];
-        draft.bits = drafts::total_bits(&draft);
+        draft.bits = drafts::total_bits(&draft.cells);
         let passes = outgoing <= 2_048;
         assert_eq!(same_run(&draft.bytes(), 5).is_ok(), passes);
         same_answers(&draft.bytes(), 12);

@@ -158,6 +158,29 @@ fn trap_width_of_4() {
 }
 
 #[test]
+fn a_tie_of_a_wide_first_group_and_fewer_cells() {
+    let cascade = Cascade::new(4, &cases::TIE);
+    let two_cells = cascade.cost(0, 1) + cascade.cost(1, 3);
+    let planned = plan(4, &cases::TIE, 4).unwrap();
+    assert_eq!((planned.bits, two_cells), (40, 40));
+    let expected = [[2, 1, 3, 4, 24], [1, 3, 2, 0, 8], [1, 2, 1, 2, 8]];
+    assert_eq!(fields(&planned.cells), expected);
+}
+
+#[test]
+fn more_than_256_classes_at_a_chosen_cut() {
+    let table = tables::many_classes();
+    let expected = [
+        [5, 1, 32, 24, 32 * (5 + 24)],
+        [4, 32, 300, 19, 512 * (9 + 19)],
+        [3, 300, 1, 2, 4_096 * 2],
+    ];
+    let (answer, image) = compiled(12, &table, 12).unwrap();
+    assert_eq!(fields(&answer.plan.cells), expected);
+    assert_eq!(image, Cascade::new(12, &table).draft(&[5, 4, 3]).bytes());
+}
+
+#[test]
 fn equal_costs_take_the_wider_first_group() {
     // One cell costs 4 * 3, two cost 2 * (1 + 1) + 4 * 2.
     let table = [0, 1, -1, -3];
@@ -173,5 +196,14 @@ fn equal_costs_take_the_wider_first_group() {
             }
             assert_eq!((left, planned.bits), (0, 0));
         }
+    }
+}
+
+#[test]
+fn values_as_far_apart_as_can_be() {
+    for case in cases::extreme_halves() {
+        let (answer, records) = built(case.n, &case.table);
+        assert_eq!(records, case.records);
+        assert_eq!((answer.nodes, answer.offset), (2, case.table[0]));
     }
 }

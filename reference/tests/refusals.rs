@@ -26,6 +26,25 @@ fn plan_refusal(n: usize, table: &[i32], limit: usize) -> Refusal {
 }
 
 #[test]
+fn n_beyond_32_bits() {
+    let n = cases::WRAPPED_3;
+    for length in [8, 0, 1, 7, 9, 16, 4_096] {
+        let table = vec![0; length];
+        assert_eq!(build_refusal(n, &table, 28), 1);
+        assert_eq!(build_refusal(n, &table, 40_000), 1);
+        for limit in [3, 12] {
+            assert_eq!(plan_refusal(n, &table, limit), 1);
+            assert_eq!(compile_refusal(n, &table, limit, 1_000), 1);
+        }
+    }
+    for records in [&[][..], &[2, 0, 0, 1]] {
+        for x in [0, 7, 8] {
+            assert_eq!(walk(n, 0, records, x), Err(1));
+        }
+    }
+}
+
+#[test]
 fn build_each() {
     for n in [0].into_iter().chain(HUGE) {
         assert_eq!(build_refusal(n, &FIGURE, 60), 1);

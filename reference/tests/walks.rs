@@ -118,13 +118,9 @@ fn unreduced_lists_are_walked() {
 }
 
 #[test]
-fn the_longest_path() {
-    let chain: Vec<i32> = (0..12).flat_map(|v| [v, v, v, MOST_WEIGHT]).collect();
-    assert_eq!(
-        walk(12, GREATEST, &chain, 4095),
-        Ok(GREATEST + 12 * MOST_WEIGHT)
-    );
-    assert_eq!(walk(12, GREATEST, &chain, 0), Ok(GREATEST));
-    let chain: Vec<i32> = (0..12).flat_map(|v| [v, v, v, -MOST_WEIGHT]).collect();
-    assert_eq!(walk(12, LEAST, &chain, 4095), Ok(LEAST - 12 * MOST_WEIGHT));
+fn fixed_lists() {
+    for case in cases::lists() {
+        let answer = walk(case.n, case.offset, &case.records, case.x);
+        assert_eq!(answer, case.answer, "{}", case.name);
+    }
 }

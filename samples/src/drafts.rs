@@ -38,9 +38,26 @@ impl DraftCell {
             words: words.to_vec(),
         }
     }
+
+    /// A cell with the least width of its weights.
+    pub fn least(group: usize, incoming: usize, outgoing: usize, words: &[(u16, i32)]) -> Self {
+        let width = least_width(words);
+        DraftCell::new(group as u8, incoming as u16, outgoing as u16, width, words)
+    }
 }
 
 impl Draft {
+    /// An image with the bits that its cells say.
+    pub fn new(n: usize, offset: i32, cells: Vec<DraftCell>) -> Draft {
+        let bits = total_bits(&cells);
+        Draft {
+            n: n as u8,
+            offset,
+            cells,
+            bits,
+        }
+    }
+
     pub fn bytes(&self) -> Vec<u8> {
         let mut bytes = vec![0x56, self.n];
         bytes.extend(self.offset.to_be_bytes());
@@ -111,14 +128,7 @@ pub fn passing(random: &mut Random) -> Draft {
         cells.push(passing_cell(group, incoming, outgoing, random));
         incoming = outgoing;
     }
-    let mut draft = Draft {
-        n: n as u8,
-        offset: random.between(LEAST, GREATEST),
-        cells,
-        bits: 0,
-    };
-    draft.bits = total_bits(&draft);
-    draft
+    Draft::new(n, random.between(LEAST, GREATEST), cells)
 }
 
 fn passing_cell(group: usize, incoming: usize, outgoing: usize, random: &mut Random) -> DraftCell {
@@ -133,8 +143,7 @@ fn passing_cell(group: usize, incoming: usize, outgoing: usize, random: &mut Ran
         (random.below(outgoing) as u16, weight)
     });
     let words: Vec<(u16, i32)> = words.collect();
-    let width = least_width(&words);
-    DraftCell::new(group as u8, incoming as u16, outgoing as u16, width, &words)
+    DraftCell::least(group, incoming, outgoing, &words)
 }
 
 fn least_width(words: &[(u16, i32)]) -> u8 {
@@ -142,13 +151,13 @@ fn least_width(words: &[(u16, i32)]) -> u8 {
 }
 
 /// The bits that the cells' commands say, however wrong they are.
-pub fn total_bits(draft: &Draft) -> u32 {
+pub fn total_bits(cells: &[DraftCell]) -> u32 {
     let bits = |cell: &DraftCell| {
         let address = rail(cell.incoming.into()) + usize::from(cell.group);
         let word = rail(cell.outgoing.into()) + usize::from(cell.width);
         (word as u32).wrapping_shl(address as u32)
     };
-    draft.cells.iter().map(bits).fold(0, u32::wrapping_add)
+    cells.iter().map(bits).fold(0, u32::wrapping_add)
 }
 
 /// One change, of an operand or of the order; sometimes what depends on it is
@@ -171,7 +180,7 @@ pub fn damage(draft: &mut Draft, random: &mut Random) {
         }
     }
     if random.below(2) == 0 {
-        draft.bits = total_bits(draft);
+        draft.bits = total_bits(&draft.cells);
     }
 }
 

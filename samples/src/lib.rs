@@ -1,6 +1,7 @@
 //! What the tests and the benchmarks are tried on: tables, images by hand, and
 //! the paper's definitions once more, in other ways than the second program's.
 
+pub mod cases;
 pub mod drafts;
 pub mod oracle;
 pub mod tables;

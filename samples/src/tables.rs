@@ -162,6 +162,20 @@ pub fn last_value_differs(n: usize, height: usize) -> Vec<i32> {
     })
 }
 
+/// A table over 12 variables whose grouping of least cost is 5, 4, 3, with 300
+/// classes at cut 9: blocks far apart, whose differences are the block's number
+/// modulo 300 in four-valued digits, -2 to 1.
+pub fn many_classes() -> Vec<i32> {
+    of(12, |x| {
+        let (block, place) = (x >> 3, x & 7);
+        let digit = match place {
+            1..=5 => (block % 300 >> (2 * (place - 1)) & 3) as i32 - 2,
+            _ => 0,
+        };
+        16_000 * block as i32 - 4_000_000 + digit
+    })
+}
+
 /// Structured, adversarial and pseudo-random tables over n variables.
 pub fn all(n: usize, random: &mut Random, count: usize) -> Vec<Vec<i32>> {
     let mut all = structured(n);

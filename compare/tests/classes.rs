@@ -2,7 +2,7 @@
 
 use panstrait_compare::proved;
 use panstrait_reference as reference;
-use panstrait_samples::{tables, Random};
+use panstrait_samples::{cases, tables, Random};
 
 /// What the rows are filled with before a call.
 const PLACE: usize = 0x5EED_1234_5678;
@@ -88,6 +88,11 @@ fn tables_that_are_hard_to_tell_apart() {
 }
 
 #[test]
+fn more_than_256_classes() {
+    same_rows(12, &tables::many_classes());
+}
+
+#[test]
 fn random_tables() {
     let mut random = Random(3);
     for n in 1..=12 {
@@ -159,6 +164,9 @@ fn too_many_variables() {
         refused(n, 4_096, Rows::patterned(8_191, 8_191, 13));
     }
     refused(13, 8_192, Rows::patterned(16_383, 16_383, 14));
+    for values in [8, 0, 1, 16] {
+        refused(cases::WRAPPED_3, values, Rows::patterned(15, 15, 4));
+    }
 }
 
 #[test]

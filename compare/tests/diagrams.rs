@@ -3,7 +3,7 @@
 use panstrait_compare::answers;
 use panstrait_reference as reference;
 use panstrait_reference::Refusal;
-use panstrait_samples::{node_numbers, tables, Random, GREATEST, LEAST, NUMBER};
+use panstrait_samples::{cases, node_numbers, tables, Random, GREATEST, LEAST, NUMBER};
 
 /// Both programs' answers for a buffer of so many numbers, compared whole, with
 /// the numbers before and after it.
@@ -35,6 +35,18 @@ fn structured_tables() {
 fn tables_that_are_hard_to_tell_apart() {
     for n in 1..=12 {
         tables::adversarial(n).iter().for_each(|t| built(n, t));
+    }
+}
+
+/// Both programs' records are the ones worked out by hand.
+#[test]
+fn values_as_far_apart_as_can_be() {
+    for case in cases::extreme_halves() {
+        let mut nodes = vec![NUMBER; node_numbers(case.n)];
+        let answer = answers::build(case.n, &case.table, &mut nodes).expect("a sound table");
+        assert_eq!((answer.nodes, answer.offset), (2, case.table[0]));
+        assert_eq!(nodes[..4], case.records);
+        built(case.n, &case.table);
     }
 }
 
@@ -74,8 +86,21 @@ fn room_beyond_what_is_needed() {
 
 #[test]
 fn variables_out_of_range() {
-    for n in [0, 13, 14, 31, 32, 63, 64, 65, 1 << 32, usize::MAX] {
-        for values in [0, 1, 2, 4_096, 8_192] {
+    for n in [
+        0,
+        13,
+        14,
+        31,
+        32,
+        63,
+        64,
+        65,
+        1 << 32,
+        cases::WRAPPED_3,
+        usize::MAX,
+    ] {
+        for values in [0, 1, 2, 7, 8, 9, 4_096, 8_192] {
+            assert_eq!(same_build(n, &vec![0; values], 28), Err(1));
             assert_eq!(same_build(n, &vec![0; values], 40_000), Err(1));
         }
     }

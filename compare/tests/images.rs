@@ -3,7 +3,7 @@
 use panstrait_compare::answers;
 use panstrait_reference as reference;
 use panstrait_reference::{Ran, Refusal};
-use panstrait_samples::{drafts, figure_draft, tables, Cascade, Draft, Random, NUMBER};
+use panstrait_samples::{cases, drafts, figure_draft, tables, Cascade, Draft, Random, NUMBER};
 use std::ops::RangeInclusive;
 
 /// Both programs' answers at X.
@@ -83,6 +83,28 @@ fn large_compiled_images() {
                 let inputs = (0..10).map(|_| random.below(1 << n));
                 gives_back(&draft.bytes(), &table, draft.cells.len(), inputs);
             }
+        }
+    }
+}
+
+#[test]
+fn fixed_images_that_pass() {
+    for case in cases::passing_images() {
+        gives_back(&case.image, &case.values, case.words, case.inputs());
+        same_answers(&case.image, 12);
+    }
+}
+
+#[test]
+fn fixed_images_that_are_refused() {
+    for case in cases::refused_images() {
+        for x in [0, usize::MAX] {
+            let answer = same_run(&case.image, x);
+            assert_eq!(answer, Err(case.refusal), "{}", case.name);
+        }
+        for room in [2, 4, 4_096] {
+            let answer = same_expand(&case.image, room);
+            assert_eq!(answer, Err(case.refusal), "{}", case.name);
         }
     }
 }

@@ -3,7 +3,9 @@
 use panstrait_compare::answers;
 use panstrait_reference as reference;
 use panstrait_reference::Refusal;
-use panstrait_samples::{node_numbers, oracle, tables, Random, GREATEST, LEAST, MOST_WEIGHT};
+use panstrait_samples::{
+    cases, node_numbers, oracle, tables, Random, GREATEST, LEAST, MOST_WEIGHT,
+};
 
 /// Both programs' answers.
 fn same_walk(n: usize, offset: i32, records: &[i32], x: usize) -> Result<i32, Refusal> {
@@ -174,6 +176,14 @@ fn children_that_are_not_lower() {
 }
 
 #[test]
+fn fixed_lists() {
+    for case in cases::lists() {
+        let answer = same_walk(case.n, case.offset, &case.records, case.x);
+        assert_eq!(answer, case.answer, "{}", case.name);
+    }
+}
+
+#[test]
 fn lengths_that_do_not_fit() {
     for n in 1..=12 {
         let room = node_numbers(n);
@@ -200,8 +210,19 @@ fn offsets_and_inputs_out_of_range() {
 
 #[test]
 fn variables_out_of_range() {
-    for n in [0, 13, 31, 32, 63, 64, 65, 1 << 32, usize::MAX] {
-        for x in [0, 1, 1 << 13, usize::MAX] {
+    for n in [
+        0,
+        13,
+        31,
+        32,
+        63,
+        64,
+        65,
+        1 << 32,
+        cases::WRAPPED_3,
+        usize::MAX,
+    ] {
+        for x in [0, 1, 7, 8, 1 << 13, usize::MAX] {
             assert_eq!(same_walk(n, 0, &[], x), Err(1));
             assert_eq!(same_walk(n, 0, &[0, 0, 0, 1], x), Err(1));
         }

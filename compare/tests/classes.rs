@@ -164,8 +164,10 @@ fn too_many_variables() {
         refused(n, 4_096, Rows::patterned(8_191, 8_191, 13));
     }
     refused(13, 8_192, Rows::patterned(16_383, 16_383, 14));
-    for values in [8, 0, 1, 16] {
-        refused(cases::WRAPPED_3, values, Rows::patterned(15, 15, 4));
+    for n in cases::WRAPPED_3 {
+        for values in [8, 0, 1, 16] {
+            refused(n, values, Rows::patterned(15, 15, 4));
+        }
     }
 }
 

@@ -18,7 +18,9 @@ fn the_empty_list_is_the_offset() {
     for n in 1..=12 {
         assert_eq!(walk(n, -17, &[], 0), Ok(-17));
         assert_eq!(walk(n, -17, &[], (1 << n) - 1), Ok(-17));
-        assert_eq!(walk(n, -17, &[], 1 << n), Err(7));
+        for x in [1 << n, 1 << 16, 1 << 32, usize::MAX] {
+            assert_eq!(walk(n, -17, &[], x), Err(7));
+        }
     }
 }
 

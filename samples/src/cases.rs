@@ -3,8 +3,8 @@
 
 use crate::{tables, Cascade, Draft, DraftCell, GREATEST, LEAST, MOST_WEIGHT};
 
-/// An n that is 3 to a program that looks at its low 32 bits alone.
-pub const WRAPPED_3: usize = (1 << 32) + 3;
+/// n that are 3 to a program that looks at their low 8, 16 or 32 bits alone.
+pub const WRAPPED_3: [usize; 3] = [(1 << 8) + 3, (1 << 16) + 3, (1 << 32) + 3];
 
 /// The greatest and the least value that twelve weights lead to, each with the
 /// offset and the weight.
@@ -34,6 +34,59 @@ pub fn extreme_halves() -> Vec<Diagram> {
     let both_ways = [[GREATEST, LEAST], [LEAST, GREATEST]];
     let pairs = (1..=12).flat_map(|n| both_ways.map(|values| halves(n, values)));
     pairs.collect()
+}
+
+/// A call of Plan or Compile that several refusals hold for, in the paper's
+/// order.
+pub struct RefusedPlan {
+    pub refusals: Vec<u8>,
+    pub n: usize,
+    pub table: Vec<i32>,
+    pub limit: usize,
+    /// The bytes of the image buffer.
+    pub room: usize,
+}
+
+/// Every set of refusals of Compile that can hold at once. Those of Plan are
+/// the sets without 10.
+pub fn refused_plans() -> Vec<RefusedPlan> {
+    let numbers = [1, 2, 3, 8, 9, 10];
+    let set = |bits: usize| -> Vec<u8> {
+        let chosen = (0..numbers.len()).filter(|place| bits >> place & 1 == 1);
+        chosen.map(|place| numbers[place]).collect()
+    };
+    let sets: Vec<Vec<u8>> = (1..1 << numbers.len()).map(set).collect();
+    // Without variables there is a grouping, the empty one.
+    let without_variables = sets.iter().filter(|s| s.contains(&1) && !s.contains(&9));
+    let with_13 = sets.iter().map(|set| refused_plan(set, 13));
+    with_13
+        .chain(without_variables.map(|set| refused_plan(set, 0)))
+        .collect()
+}
+
+/// The call for a set of refusals, with the n that refusal 1 is to have.
+fn refused_plan(refusals: &[u8], wrong_n: usize) -> RefusedPlan {
+    let holds = |number: u8| refusals.contains(&number);
+    let n = if holds(1) { wrong_n } else { 3 };
+    let length = (1 << n) + usize::from(holds(2));
+    // Two classes at every inner cut: no grouping keeps to limit 1.
+    let mut table: Vec<i32> = (0..length).map(|x| i32::from(x == 1)).collect();
+    if holds(3) {
+        table[length - 1] = GREATEST + 1;
+    }
+    let limit = match (holds(8), holds(9)) {
+        (false, false) => 12,
+        (false, true) => 1,
+        (true, false) => 13,
+        (true, true) => 0,
+    };
+    RefusedPlan {
+        refusals: refusals.into(),
+        n,
+        table,
+        limit,
+        room: if holds(10) { 0 } else { 65_536 },
+    }
 }
 
 /// A record list, an X and Walk's answer.
@@ -248,68 +301,134 @@ pub struct RefusedImage {
     pub refusal: u8,
 }
 
+impl RefusedImage {
+    fn new(name: &str, image: Vec<u8>, refusal: u8) -> RefusedImage {
+        RefusedImage {
+            name: name.into(),
+            image,
+            refusal,
+        }
+    }
+}
+
 pub fn refused_images() -> Vec<RefusedImage> {
-    let mut images = images_with_great_weights();
-    images.extend(images_with_empty_groups());
-    images.extend(images_with_any_outgoing_count());
+    let mut images = images_with_ends_out_of_range();
+    images.extend(images_with_a_broken_command());
+    images.extend(images_with_a_broken_word());
+    images.extend(images_that_end_with_a_cell());
     images
 }
 
-/// Weights out of range, with the width and the total that they ask for.
-fn images_with_great_weights() -> Vec<RefusedImage> {
-    let great = [MOST_WEIGHT + 1, -MOST_WEIGHT - 1, i32::MAX, i32::MIN];
-    let image = |weight: i32| {
-        let first = DraftCell::least(1, 1, 2, &[(0, 0), (1, 0)]);
-        let last = DraftCell::least(1, 2, 1, &[(0, 0), (0, 1), (0, 0), (0, weight)]);
-        let one = DraftCell::least(1, 1, 1, &[(0, 0), (0, weight)]);
-        [
-            Draft::new(1, 0, vec![one]),
-            Draft::new(2, 0, vec![first, last]),
-        ]
-        .map(|draft| RefusedImage {
-            name: format!("weight {weight} after {} bytes", draft.bytes().len() - 9),
-            image: draft.bytes(),
-            refusal: 13,
-        })
-    };
-    great.into_iter().flat_map(image).collect()
-}
-
-/// Cells of no variable, with the words that they ask for.
-fn images_with_empty_groups() -> Vec<RefusedImage> {
-    let empty = |classes: u16| {
-        let words: Vec<(u16, i32)> = (0..classes).map(|class| (class, 0)).collect();
-        DraftCell::least(0, classes.into(), classes.into(), &words)
-    };
-    let one = DraftCell::least(1, 1, 1, &[(0, 0), (0, 3)]);
-    let two = [
-        DraftCell::least(1, 1, 2, &[(0, 0), (1, 3)]),
-        DraftCell::least(1, 2, 1, &[(0, 0), (0, 1), (0, 0), (0, 2)]),
-    ];
-    let [upper, lower] = two;
+/// n or the offset out of range, before sound cells.
+fn images_with_ends_out_of_range() -> Vec<RefusedImage> {
+    let cells = |n: usize| vec![one_variable(); n];
     [
-        ("first", vec![empty(1), one.clone()], 13),
-        ("between", vec![upper, empty(2), lower], 13),
-        ("alone", vec![empty(1)], 13),
-        // No variable is left, so the end is due.
-        ("last", vec![one, empty(1)], 12),
+        ("n 0", 0, 0),
+        ("n 13", 13, 0),
+        ("an offset too great", 1, GREATEST + 1),
+        ("an offset too small", 1, LEAST - 1),
     ]
-    .map(|(place, cells, refusal)| {
-        let n = cells
-            .iter()
-            .map(|cell| usize::from(cell.group))
-            .sum::<usize>();
-        RefusedImage {
-            name: format!("an empty group, {place}"),
-            image: Draft::new(n.max(1), 0, cells).bytes(),
-            refusal,
-        }
+    .map(|(name, n, offset)| {
+        let image = Draft::new(n, offset, cells(n)).bytes();
+        RefusedImage::new(name, image, 13)
     })
     .into()
 }
 
-/// Cells that end the bytes, with outgoing counts in and out of range.
-fn images_with_any_outgoing_count() -> Vec<RefusedImage> {
+/// The only cell of an image.
+fn one_variable() -> DraftCell {
+    DraftCell::least(1, 1, 1, &[(0, 0), (0, 3)])
+}
+
+/// The first of two cells, with two classes between them, and the second.
+fn two_variables() -> [DraftCell; 2] {
+    [
+        DraftCell::least(1, 1, 2, &[(0, 0), (1, 3)]),
+        DraftCell::least(1, 2, 1, &[(0, 0), (0, 1), (0, 0), (0, 2)]),
+    ]
+}
+
+/// A sound cell but for its width.
+fn of_width(width: u8) -> DraftCell {
+    DraftCell {
+        width,
+        ..one_variable()
+    }
+}
+
+/// Cells that break one rule of their command. Words and total are as the
+/// operands ask, so that nothing else is wrong.
+fn images_with_a_broken_command() -> Vec<RefusedImage> {
+    let cell = |group, incoming, outgoing| {
+        let words = vec![(0, 0); incoming << group];
+        DraftCell::least(group, incoming, outgoing, &words)
+    };
+    let [upper, lower] = two_variables();
+    let below = |cell: DraftCell| vec![upper.clone(), cell];
+    let images = vec![
+        ("no variable, first", 1, vec![cell(0, 1, 1), one_variable()]),
+        (
+            "no variable, between",
+            2,
+            vec![upper.clone(), cell(0, 2, 2), lower],
+        ),
+        ("no variable, alone", 1, vec![cell(0, 1, 1)]),
+        ("more variables than n", 1, vec![cell(2, 1, 1)]),
+        ("more variables than are left", 2, below(cell(2, 2, 1))),
+        ("no class before the first", 1, vec![cell(1, 0, 1)]),
+        ("two classes before the first", 1, vec![cell(1, 2, 1)]),
+        ("no class of two", 2, below(cell(1, 0, 1))),
+        ("one class of two", 2, vec![cell(1, 1, 2), one_variable()]),
+        ("three classes of two", 2, below(cell(1, 3, 1))),
+        ("no class after the last", 1, vec![cell(1, 1, 0)]),
+        ("two classes after the last", 1, vec![cell(1, 1, 2)]),
+        (
+            "4,097 classes",
+            2,
+            vec![cell(1, 1, 4_097), cell(1, 4_097, 1)],
+        ),
+        (
+            "13 address bits",
+            2,
+            vec![cell(1, 1, 4_096), cell(1, 4_096, 1)],
+        ),
+        ("a width that is too great", 1, vec![of_width(4)]),
+        ("a width that is too small", 1, vec![of_width(2)]),
+    ];
+    let image = |(name, n, cells)| RefusedImage::new(name, Draft::new(n, 0, cells).bytes(), 13);
+    images.into_iter().map(image).collect()
+}
+
+/// Words that break one rule, in the only cell and in the last of two. Width
+/// and total are as the words ask.
+fn images_with_a_broken_word() -> Vec<RefusedImage> {
+    let [upper, lower] = two_variables();
+    let great = [MOST_WEIGHT + 1, -MOST_WEIGHT - 1, i32::MAX, i32::MIN];
+    let mut words: Vec<(usize, (u16, i32))> = great.map(|weight| (1, (0, weight))).into();
+    words.extend([(0, (0, 3)), (0, (0, -1)), (0, (1, 0)), (1, (1, 0))]);
+    let images = words.into_iter().flat_map(|(place, word)| {
+        let with_word = |cell: &DraftCell, place: usize| {
+            let mut words = cell.words.clone();
+            words[place] = word;
+            DraftCell::least(1, cell.incoming.into(), 1, &words)
+        };
+        let alone = vec![with_word(&one_variable(), place)];
+        let last = vec![upper.clone(), with_word(&lower, 2 + place)];
+        [alone, last].map(|cells| {
+            let name = format!(
+                "the word {word:?} at {place} in the last of {}",
+                cells.len()
+            );
+            let image = Draft::new(cells.len(), 0, cells).bytes();
+            RefusedImage::new(&name, image, 13)
+        })
+    });
+    images.collect()
+}
+
+/// Bytes that end with a cell: its outgoing count is in range, so that more is
+/// due, or it is not.
+fn images_that_end_with_a_cell() -> Vec<RefusedImage> {
     let words: [(u16, i32); 2] = [(0, 0), (4_095, 0)];
     [
         (1, 0, 0, 13),
@@ -327,11 +446,8 @@ fn images_with_any_outgoing_count() -> Vec<RefusedImage> {
         let cell = DraftCell::least(1, 1, outgoing, &words[..written]);
         let mut image = Draft::new(n, 0, vec![cell]).bytes();
         image.truncate(image.len() - 5);
-        RefusedImage {
-            name: format!("n {n}, {outgoing} outgoing classes, {written} words"),
-            image,
-            refusal,
-        }
+        let name = format!("n {n}, {outgoing} outgoing classes, {written} words");
+        RefusedImage::new(&name, image, refusal)
     })
     .into()
 }

@@ -40,11 +40,11 @@ fn text(n: usize, built: &Built, nodes: &[i32], compiled: &Compiled) -> String {
         text += &format!("node {number} {}\n", fields.join(" "));
     }
     text += &format!("nodes {}\n", compiled.nodes);
-    for cell in &compiled.plan.cells {
+    for cell in &compiled.cells {
         text += &format!(
             "cell {} {} {} {} {}\n",
             cell.group, cell.incoming, cell.outgoing, cell.width, cell.bits
         );
     }
-    text + &format!("bits {}\n", compiled.plan.bits)
+    text + &format!("bits {}\n", compiled.bits)
 }

@@ -163,6 +163,7 @@ fn a_tie_of_a_wide_first_group_and_fewer_cells() {
     let two_cells = cascade.cost(0, 1) + cascade.cost(1, 3);
     let planned = plan(4, &cases::TIE, 4).unwrap();
     assert_eq!((planned.bits, two_cells), (40, 40));
+    assert_eq!(planned.sizes, [2, 1, 1]);
     let expected = [[2, 1, 3, 4, 24], [1, 3, 2, 0, 8], [1, 2, 1, 2, 8]];
     assert_eq!(fields(&planned.cells), expected);
 }
@@ -176,7 +177,7 @@ fn more_than_256_classes_at_a_chosen_cut() {
         [3, 300, 1, 2, 4_096 * 2],
     ];
     let (answer, image) = compiled(12, &table, 12).unwrap();
-    assert_eq!(fields(&answer.plan.cells), expected);
+    assert_eq!(fields(&answer.cells), expected);
     assert_eq!(image, Cascade::new(12, &table).draft(&[5, 4, 3]).bytes());
 }
 

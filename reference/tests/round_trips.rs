@@ -29,10 +29,6 @@ fn check_diagram(n: usize, table: &[i32]) {
     }
 }
 
-fn groups(planned: &Planned) -> Vec<usize> {
-    planned.cells.iter().map(|cell| cell.group).collect()
-}
-
 /// Plan and Compile against the dynamic programme, for every limit.
 fn check_groupings(n: usize, table: &[i32]) {
     let cascade = Cascade::new(n, table);
@@ -43,7 +39,7 @@ fn check_groupings(n: usize, table: &[i32]) {
         let planned = plan(n, table, limit);
         if let Some((bits, sizes)) = &expected {
             let planned = planned.expect("a grouping fits");
-            assert_eq!((planned.bits, &groups(&planned)), (*bits, sizes));
+            assert_eq!((planned.bits, &planned.sizes), (*bits, sizes));
             if last != expected {
                 check_image(n, table, limit, &planned, cascade.draft(sizes));
             }
@@ -59,16 +55,16 @@ fn check_image(n: usize, table: &[i32], limit: usize, planned: &Planned, draft: 
     let (answer, image) = compiled(n, table, limit).expect("a grouping fits");
     assert!(image == draft.bytes());
     assert_eq!(answer.length, image.len());
-    assert_eq!(&answer.plan, planned);
+    assert_eq!((&answer.cells, answer.bits), (&planned.cells, planned.bits));
     assert_eq!(answer.nodes, built(n, table).0.nodes);
-    let drafted = draft.cells.iter().zip(&planned.cells);
-    for (drafted, cell) in drafted {
-        assert_eq!(usize::from(drafted.incoming), cell.incoming);
-        assert_eq!(usize::from(drafted.outgoing), cell.outgoing);
-        assert_eq!(usize::from(drafted.width), cell.width);
+    assert_eq!(planned.cells.len(), draft.cells.len());
+    for (cell, drafted) in planned.cells.iter().zip(&draft.cells) {
+        assert_eq!(cell.group, usize::from(drafted.group));
+        assert_eq!(cell.incoming, usize::from(drafted.incoming));
+        assert_eq!(cell.outgoing, usize::from(drafted.outgoing));
+        assert_eq!(cell.width, usize::from(drafted.width));
+        assert_eq!(cell.bits, drafted.bits() as usize);
     }
-    let bits: usize = planned.cells.iter().map(|cell| cell.bits).sum();
-    assert_eq!(bits, planned.bits);
     let mut expanded = vec![NUMBER; 1 << n];
     assert_eq!(expand(&image, &mut expanded), Ok(()));
     assert!(expanded == table);
@@ -147,7 +143,7 @@ fn the_longest_images_fit_the_listing_buffer() {
     let printed = listing(&listing_input(12, 12, &table));
     assert!(printed.starts_with(b"table 12 "));
     let (answer, _) = compiled(12, &table, 12).unwrap();
-    assert!(printed.ends_with(format!("bits {}\n", answer.plan.bits).as_bytes()));
+    assert!(printed.ends_with(format!("bits {}\n", answer.bits).as_bytes()));
 }
 
 #[test]
@@ -166,7 +162,7 @@ fn equal_costs_occur_and_are_settled() {
         let equals: Vec<Vec<usize>> = equals.map(|(_, sizes)| sizes).collect();
         ties += usize::from(equals.len() > 1);
         assert_eq!(equals.iter().max(), Some(&sizes));
-        assert_eq!(groups(&plan(n, &table, 12).unwrap()), sizes);
+        assert_eq!(plan(n, &table, 12).unwrap().sizes, sizes);
     }
     assert!(ties > 0);
 }

@@ -248,11 +248,11 @@ impl Counted {
         (class + turns * self.count - Self::TURN * cut) % self.classes(cut)
     }
 
-    /// A weight that cut, class and group value all have a part in.
+    /// A weight of any size that cut, class and group value have a part in.
     fn weight(cut: usize, class: usize, group_value: usize) -> i32 {
         match group_value {
             0 => 0,
-            v => ((class + 1) * v * 7_919 + cut) as i32 % 2_001 - 1_000,
+            v => ((class + 1) * v * 7_919_117 + cut) as i32 % MOST_WEIGHT,
         }
     }
 

@@ -39,6 +39,13 @@ impl DraftCell {
         }
     }
 
+    /// The bits that the command's operands say, however wrong they are.
+    pub fn bits(&self) -> u32 {
+        let address = rail(self.incoming.into()) + usize::from(self.group);
+        let word = rail(self.outgoing.into()) + usize::from(self.width);
+        (word as u32).wrapping_shl(address as u32)
+    }
+
     /// A cell with the least width of its weights.
     pub fn least(group: usize, incoming: usize, outgoing: usize, words: &[(u16, i32)]) -> Self {
         let width = least_width(words);
@@ -150,14 +157,9 @@ fn least_width(words: &[(u16, i32)]) -> u8 {
     words.iter().map(|w| width(w.1) as u8).max().unwrap_or(0)
 }
 
-/// The bits that the cells' commands say, however wrong they are.
+/// The total bits that the cells say.
 pub fn total_bits(cells: &[DraftCell]) -> u32 {
-    let bits = |cell: &DraftCell| {
-        let address = rail(cell.incoming.into()) + usize::from(cell.group);
-        let word = rail(cell.outgoing.into()) + usize::from(cell.width);
-        (word as u32).wrapping_shl(address as u32)
-    };
-    cells.iter().map(bits).fold(0, u32::wrapping_add)
+    cells.iter().map(DraftCell::bits).fold(0, u32::wrapping_add)
 }
 
 /// One change, of an operand or of the order; sometimes what depends on it is

@@ -123,7 +123,7 @@ fn differences_beyond_32_bits() {
         for _ in 0..20 {
             let extremes = [i32::MIN, -1, 0, i32::MAX];
             same_rows(n, &tables::of(n, |_| extremes[random.below(4)]));
-            same_rows(n, &tables::of(n, |_| random.next() as i32));
+            same_rows(n, &tables::of(n, |_| random.number() as i32));
         }
     }
 }

@@ -176,7 +176,7 @@ fn two_damaged_bytes() {
                 damaged[place] = match random.below(3) {
                     0 => image[place].wrapping_add(1),
                     1 => image[random.below(image.len())],
-                    _ => random.next() as u8,
+                    _ => random.number() as u8,
                 };
             }
             same_answers(&damaged, draft.n.into());
@@ -243,7 +243,7 @@ fn values(own: i64, random: &mut Random) -> Vec<i64> {
         -16_777_215,
         i64::MAX,
     ];
-    let mut values = vec![own - 1, own + 1, random.next() as i64];
+    let mut values = vec![own - 1, own + 1, random.number() as i64];
     let limit = limits[random.below(limits.len())];
     values.extend([limit - 1, limit, limit.wrapping_add(1)]);
     values
@@ -305,7 +305,7 @@ fn damaged_images_of_any_shape() {
         let mut image = draft.bytes();
         match random.below(12) {
             0 => image.truncate(random.below(image.len())),
-            1 => image.push(random.next() as u8),
+            1 => image.push(random.number() as u8),
             _ => {}
         }
         same_answers(&image, n);

@@ -33,6 +33,17 @@ fn classes_by_a_map_of_differences() {
     }
 }
 
+/// Differences that are equal only modulo 2^32 are not equal.
+#[test]
+fn differences_beyond_32_bits() {
+    assert_eq!(classes(2, &[i32::MIN, i32::MAX, 0, -1], 1), [0, 1]);
+    let rise = (1 << 32) - 1;
+    for (p, jumps) in [(rise - 1, 1), (rise, 0)] {
+        let bound = node_bound(1, &[i32::MIN, i32::MAX], p, 1);
+        assert_eq!(bound, 1 + i128::from(p) + 1 + (jumps - 1));
+    }
+}
+
 #[test]
 fn one_class_at_the_outer_cuts() {
     for n in 1..=12 {
@@ -179,6 +190,18 @@ fn more_than_256_classes_at_a_chosen_cut() {
     let (answer, image) = compiled(12, &table, 12).unwrap();
     assert_eq!(fields(&answer.cells), expected);
     assert_eq!(image, Cascade::new(12, &table).draft(&[5, 4, 3]).bytes());
+}
+
+/// As long an image as a chosen grouping is known to have.
+#[test]
+fn a_long_image() {
+    let (answer, _) = compiled(12, &tables::long_image(), 12).unwrap();
+    let expected = [
+        [10, 1, 1_024, 25, 1_024 * (10 + 25)],
+        [2, 1_024, 1, 4, 4_096 * 4],
+    ];
+    assert_eq!(fields(&answer.cells), expected);
+    assert_eq!(answer.length, 6 + 7 * (1 + 1_024) + 7 * (1 + 4_096) + 5);
 }
 
 #[test]

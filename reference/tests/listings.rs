@@ -168,6 +168,9 @@ fn the_program_prints_the_listing() {
 
 #[test]
 fn the_program_on_the_longest_input() {
+    let long_image = tables::long_image();
+    let input = listing_input(12, 12, &long_image);
+    assert_eq!(printed_by_program(&input), expected(12, 12, &long_image));
     let table = tables::all_different(12);
     let mut input = listing_input(12, 12, &table);
     assert_eq!(input.len(), 16_386);

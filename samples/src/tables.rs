@@ -7,7 +7,7 @@ use std::f64::consts::PI;
 pub struct Random(pub u64);
 
 impl Random {
-    pub fn next(&mut self) -> u64 {
+    pub fn number(&mut self) -> u64 {
         self.0 = self.0.wrapping_add(0x9E37_79B9_7F4A_7C15);
         let mut z = self.0;
         z = (z ^ (z >> 30)).wrapping_mul(0xBF58_476D_1CE4_E5B9);
@@ -16,7 +16,7 @@ impl Random {
     }
 
     pub fn below(&mut self, bound: usize) -> usize {
-        (self.next() % bound as u64) as usize
+        (self.number() % bound as u64) as usize
     }
 
     /// A number from `least` to `greatest`.
@@ -169,10 +169,24 @@ pub fn many_classes() -> Vec<i32> {
     of(12, |x| {
         let (block, place) = (x >> 3, x & 7);
         let digit = match place {
-            1..=5 => (block % 300 >> (2 * (place - 1)) & 3) as i32 - 2,
+            1..=5 => ((block % 300) >> (2 * (place - 1)) & 3) as i32 - 2,
             _ => 0,
         };
         16_000 * block as i32 - 4_000_000 + digit
+    })
+}
+
+/// A table over 12 variables whose grouping of least cost is 10, 2, with 1,024
+/// classes between: blocks of four, far apart in no order, whose differences
+/// are the block's number in digits of four bits, -8 to 7.
+pub fn long_image() -> Vec<i32> {
+    of(12, |x| {
+        let (block, place) = (x >> 2, x & 3);
+        let digit = match place {
+            0 => 0,
+            _ => (block >> (4 * (place - 1)) & 15) as i32 - 8,
+        };
+        (block * 7_919_117 % 16_000_001) as i32 - 8_000_000 + digit
     })
 }
 

@@ -101,6 +101,7 @@ pub struct List {
 
 pub fn lists() -> Vec<List> {
     let mut lists = extreme_lists();
+    lists.push(list_with_a_low_root());
     lists.extend(lists_with_forward_children());
     lists.extend(lists_beyond_16_bits());
     lists
@@ -116,6 +117,18 @@ fn extreme_lists() -> Vec<List> {
         answer: Ok(value),
     };
     EXTREMES.map(list).into()
+}
+
+/// The root is the last record, whatever its variable.
+fn list_with_a_low_root() -> List {
+    List {
+        name: "the root has the lowest variable".into(),
+        n: 3,
+        offset: -4,
+        records: [[2, 0, 0, 5], [1, 0, 0, 7], [0, 0, 0, 9]].concat(),
+        x: 0b111,
+        answer: Ok(5),
+    }
 }
 
 /// A child with its record's own number or a higher one. Where it can be, the

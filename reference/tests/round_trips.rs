@@ -137,16 +137,6 @@ fn random_large_tables() {
 }
 
 #[test]
-fn the_longest_images_fit_the_listing_buffer() {
-    let mut random = Random(4);
-    let table = tables::of(12, |_| random.between(LEAST, GREATEST));
-    let printed = listing(&listing_input(12, 12, &table));
-    assert!(printed.starts_with(b"table 12 "));
-    let (answer, _) = compiled(12, &table, 12).unwrap();
-    assert!(printed.ends_with(format!("bits {}\n", answer.bits).as_bytes()));
-}
-
-#[test]
 fn equal_costs_occur_and_are_settled() {
     let mut random = Random(5);
     let mut ties = 0;

@@ -1,9 +1,9 @@
 //! The classes of all cuts, beside the same method in Rust.
 
+use crate::same_method;
 use crate::tables::{self, Named, N};
-use crate::{same_method, timing};
+use crate::timing::{self, black_box};
 use panstrait_compare::proved;
-use std::hint::black_box;
 
 /// The rows are not cleared between runs: each run writes them whole.
 struct Rows {

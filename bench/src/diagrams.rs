@@ -1,15 +1,15 @@
 //! Build, beside the same method in Rust and beside a program that hashes.
 
-use crate::common::{self, oracle};
+use crate::same_method;
 use crate::tables::{self, Named, N};
-use crate::{same_method, timing};
+use crate::timing::{self, black_box};
 use panstrait_compare::answers;
-use std::hint::black_box;
+use panstrait_samples::{node_numbers, oracle};
 
 /// The node buffers are not cleared between runs.
 fn one(Named { name, table }: &Named) {
     let what = format!("build, {name}");
-    let room = common::node_numbers(N);
+    let room = node_numbers(N);
     let (mut ours, mut theirs) = (vec![0; room], vec![0; room]);
     let mut proved = || {
         let _ = black_box(answers::build(N, black_box(table), &mut ours));

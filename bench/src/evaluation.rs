@@ -1,31 +1,32 @@
 //! Walk, Run and Expand on the largest record list and the largest images,
 //! beside the second program.
 
-use crate::common::{self, Cascade};
-use crate::{same_method, timing};
+use crate::same_method;
+use crate::timing::{self, black_box};
 use panstrait_compare::answers;
 use panstrait_reference as reference;
-use std::hint::black_box;
+use panstrait_samples::{oracle, tables, Cascade};
 
 const X: usize = 0b1010_1100_0110;
 
 /// The image of a table with all classes different, by one variable a cell:
-/// the longest image of n variables.
+/// the longest that a table of n variables has.
 fn longest_image(n: usize) -> Vec<u8> {
-    let table = common::all_different(n);
+    let table = tables::all_different(n);
     Cascade::new(n, &table).draft(&vec![1; n]).bytes()
 }
 
 fn walk() {
-    let (built, records) = common::built(12, &common::all_different(12));
+    let table = tables::all_different(12);
+    let records = oracle::records(12, &table);
     timing::line(
         &format!("walk, {} records", records.len() / 4),
         "reference",
         || {
-            let _ = black_box(answers::walk(12, built.offset, black_box(&records), X));
+            let _ = black_box(answers::walk(12, table[0], black_box(&records), X));
         },
         || {
-            let _ = black_box(reference::walk(12, built.offset, black_box(&records), X));
+            let _ = black_box(reference::walk(12, table[0], black_box(&records), X));
         },
     );
 }

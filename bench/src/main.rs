@@ -4,8 +4,6 @@
 //! first, then `cargo run --release --offline` here.
 
 mod classes;
-#[path = "../../compare/tests/common/mod.rs"]
-mod common;
 mod diagrams;
 mod evaluation;
 mod same_method;

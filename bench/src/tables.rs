@@ -1,6 +1,6 @@
 //! Tables over 12 variables: the worst ones for the class search, and typical ones.
 
-use crate::common::{self, tables};
+use panstrait_samples::tables;
 use std::f64::consts::PI;
 
 pub const N: usize = 12;
@@ -22,10 +22,10 @@ pub fn worst() -> Vec<Named> {
     let differ = |height: usize| {
         named(
             &format!("blocks of {} differ in the last value", 1 << height),
-            common::last_value_differs(N, height),
+            tables::last_value_differs(N, height),
         )
     };
-    let mut worst = vec![named("all classes different", common::all_different(N))];
+    let mut worst = vec![named("all classes different", tables::all_different(N))];
     worst.extend([1, 2, 4, 6, 8].map(differ));
     worst
 }

@@ -1,6 +1,8 @@
 //! Best times of several runs, and their ratio. A time is the processor time
 //! of this thread, so that other work on the machine counts little.
 
+use std::mem;
+use std::ptr;
 use std::time::Duration;
 
 const RUNS: usize = 30;
@@ -27,6 +29,14 @@ fn now() -> Duration {
     let status = unsafe { clock_gettime(THREAD_TIME, &mut time) };
     assert_eq!(status, 0);
     Duration::new(time.seconds as u64, time.nanoseconds as u32)
+}
+
+/// The value, through memory that the compiler must take as unknown. The
+/// library's own came with a later release than Debian has.
+pub fn black_box<T>(value: T) -> T {
+    let read = unsafe { ptr::read_volatile(&value) };
+    mem::forget(value);
+    read
 }
 
 fn time(work: &mut impl FnMut()) -> Duration {

@@ -1,10 +1,8 @@
 //! The classes of all cuts, row by row.
 
-mod common;
-
-use common::{tables, Random};
 use panstrait_compare::proved;
 use panstrait_reference as reference;
+use panstrait_samples::{cases, tables, Random};
 
 /// What the rows are filled with before a call.
 const PLACE: usize = 0x5EED_1234_5678;
@@ -83,10 +81,15 @@ fn structured_tables() {
 #[test]
 fn tables_that_are_hard_to_tell_apart() {
     for n in 1..=12 {
-        for table in common::adversarial(n) {
+        for table in tables::adversarial(n) {
             same_rows(n, &table);
         }
     }
+}
+
+#[test]
+fn more_than_256_classes() {
+    same_rows(12, &tables::many_classes());
 }
 
 #[test]
@@ -120,7 +123,7 @@ fn differences_beyond_32_bits() {
         for _ in 0..20 {
             let extremes = [i32::MIN, -1, 0, i32::MAX];
             same_rows(n, &tables::of(n, |_| extremes[random.below(4)]));
-            same_rows(n, &tables::of(n, |_| random.next() as i32));
+            same_rows(n, &tables::of(n, |_| random.number() as i32));
         }
     }
 }
@@ -161,6 +164,11 @@ fn too_many_variables() {
         refused(n, 4_096, Rows::patterned(8_191, 8_191, 13));
     }
     refused(13, 8_192, Rows::patterned(16_383, 16_383, 14));
+    for n in cases::WRAPPED_3 {
+        for values in [8, 0, 1, 16] {
+            refused(n, values, Rows::patterned(15, 15, 4));
+        }
+    }
 }
 
 #[test]

@@ -1,11 +1,9 @@
 //! Build: node count, offset, the records, and what is left of the buffer.
 
-mod common;
-
-use common::{node_numbers, tables, Random, GREATEST, LEAST, NUMBER};
 use panstrait_compare::answers;
 use panstrait_reference as reference;
 use panstrait_reference::Refusal;
+use panstrait_samples::{cases, node_numbers, tables, Random, GREATEST, LEAST, NUMBER};
 
 /// Both programs' answers for a buffer of so many numbers, compared whole, with
 /// the numbers before and after it.
@@ -36,7 +34,19 @@ fn structured_tables() {
 #[test]
 fn tables_that_are_hard_to_tell_apart() {
     for n in 1..=12 {
-        common::adversarial(n).iter().for_each(|t| built(n, t));
+        tables::adversarial(n).iter().for_each(|t| built(n, t));
+    }
+}
+
+/// Both programs' records are the ones worked out by hand.
+#[test]
+fn values_as_far_apart_as_can_be() {
+    for case in cases::extreme_halves() {
+        let mut nodes = vec![NUMBER; node_numbers(case.n)];
+        let answer = answers::build(case.n, &case.table, &mut nodes).expect("a sound table");
+        assert_eq!((answer.nodes, answer.offset), (2, case.table[0]));
+        assert_eq!(nodes[..4], case.records);
+        built(case.n, &case.table);
     }
 }
 
@@ -66,7 +76,7 @@ fn all_small_tables() {
 #[test]
 fn room_beyond_what_is_needed() {
     for n in 1..=12 {
-        for table in [common::all_different(n), tables::of(n, |_| -3)] {
+        for table in [tables::all_different(n), tables::of(n, |_| -3)] {
             for more in [0, 1, 2, 3, 4, 5, 8, 1_000] {
                 assert_eq!(same_build(n, &table, node_numbers(n) + more), Ok(()));
             }
@@ -76,8 +86,10 @@ fn room_beyond_what_is_needed() {
 
 #[test]
 fn variables_out_of_range() {
-    for n in [0, 13, 14, 31, 32, 63, 64, 65, 1 << 32, usize::MAX] {
-        for values in [0, 1, 2, 4_096, 8_192] {
+    let wrong = [0, 13, 14, 31, 32, 63, 64, 65, 1 << 32, usize::MAX];
+    for n in wrong.into_iter().chain(cases::WRAPPED_3) {
+        for values in [0, 1, 2, 7, 8, 9, 4_096, 8_192] {
+            assert_eq!(same_build(n, &vec![0; values], 28), Err(1));
             assert_eq!(same_build(n, &vec![0; values], 40_000), Err(1));
         }
     }
@@ -115,7 +127,7 @@ fn values_out_of_range() {
 fn buffers_that_are_too_short() {
     for n in 1..=12 {
         let room = node_numbers(n);
-        for table in [common::all_different(n), tables::of(n, |_| 9)] {
+        for table in [tables::all_different(n), tables::of(n, |_| 9)] {
             for short in [0, 1, room / 2, room - 4, room - 1] {
                 assert_eq!(same_build(n, &table, short), Err(4));
             }

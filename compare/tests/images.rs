@@ -1,12 +1,10 @@
-//! Run and Expand: images that the second program compiles, others that pass,
-//! and damaged ones.
+//! Run and Expand: images of tables, others that pass, and damaged ones.
 
-mod common;
-
-use common::{drafts, figure_draft, tables, Cascade, Draft, Random, NUMBER};
 use panstrait_compare::answers;
 use panstrait_reference as reference;
 use panstrait_reference::{Ran, Refusal};
+use panstrait_samples::{cases, drafts, figure_draft, tables, Cascade, Draft, Random, NUMBER};
+use std::ops::RangeInclusive;
 
 /// Both programs' answers at X.
 fn same_run(image: &[u8], x: usize) -> Result<Ran, Refusal> {
@@ -53,16 +51,24 @@ fn gives_back(image: &[u8], table: &[i32], cells: usize, inputs: impl Iterator<I
     }
 }
 
+/// The images of a table's chosen groupings within some limits.
+fn chosen_drafts(n: usize, table: &[i32], limits: RangeInclusive<usize>) -> Vec<Draft> {
+    let cascade = Cascade::new(n, table);
+    let costs = cascade.costs();
+    limits
+        .filter_map(|limit| cascade.chosen(&costs, limit))
+        .map(|(_, sizes)| cascade.draft(&sizes))
+        .collect()
+}
+
 #[test]
 fn compiled_images() {
     let mut random = Random(31);
     for n in 1..=8 {
-        for table in common::tables_of(n, &mut random, 12) {
-            for limit in 1..=12 {
-                if let Ok((compiled, image)) = common::compiled(n, &table, limit) {
-                    let inputs = (0..1 << n).step_by(1 + random.below(n));
-                    gives_back(&image, &table, compiled.plan.cells.len(), inputs);
-                }
+        for table in tables::all(n, &mut random, 12) {
+            for draft in chosen_drafts(n, &table, 1..=12) {
+                let inputs = (0..1 << n).step_by(1 + random.below(n));
+                gives_back(&draft.bytes(), &table, draft.cells.len(), inputs);
             }
         }
     }
@@ -72,10 +78,33 @@ fn compiled_images() {
 fn large_compiled_images() {
     let mut random = Random(32);
     for n in 9..=12 {
-        for table in common::tables_of(n, &mut random, 4) {
-            let (compiled, image) = common::compiled(n, &table, 12).expect("one wide cell fits");
-            let inputs = (0..10).map(|_| random.below(1 << n));
-            gives_back(&image, &table, compiled.plan.cells.len(), inputs);
+        for table in tables::all(n, &mut random, 4) {
+            for draft in chosen_drafts(n, &table, 12..=12) {
+                let inputs = (0..10).map(|_| random.below(1 << n));
+                gives_back(&draft.bytes(), &table, draft.cells.len(), inputs);
+            }
+        }
+    }
+}
+
+#[test]
+fn fixed_images_that_pass() {
+    for case in cases::passing_images() {
+        gives_back(&case.image, &case.values, case.words, case.inputs());
+        same_answers(&case.image, 12);
+    }
+}
+
+#[test]
+fn fixed_images_that_are_refused() {
+    for case in cases::refused_images() {
+        for x in [0, usize::MAX] {
+            let answer = same_run(&case.image, x);
+            assert_eq!(answer, Err(case.refusal), "{}", case.name);
+        }
+        for room in [2, 4, 4_096] {
+            let answer = same_expand(&case.image, room);
+            assert_eq!(answer, Err(case.refusal), "{}", case.name);
         }
     }
 }
@@ -83,7 +112,7 @@ fn large_compiled_images() {
 /// Groupings that need not be the chosen ones, over the table with the most
 /// classes.
 fn large_drafts() -> Vec<Draft> {
-    let table = common::all_different(12);
+    let table = tables::all_different(12);
     let cascade = Cascade::new(12, &table);
     let groupings: [&[usize]; 6] = [
         &[12],
@@ -98,7 +127,7 @@ fn large_drafts() -> Vec<Draft> {
 
 #[test]
 fn inputs_of_large_images() {
-    let table = common::all_different(12);
+    let table = tables::all_different(12);
     for draft in large_drafts() {
         let image = draft.bytes();
         let inputs = (0..table.len()).step_by(37).chain([4_095]);
@@ -147,7 +176,7 @@ fn two_damaged_bytes() {
                 damaged[place] = match random.below(3) {
                     0 => image[place].wrapping_add(1),
                     1 => image[random.below(image.len())],
-                    _ => random.next() as u8,
+                    _ => random.number() as u8,
                 };
             }
             same_answers(&damaged, draft.n.into());
@@ -214,7 +243,7 @@ fn values(own: i64, random: &mut Random) -> Vec<i64> {
         -16_777_215,
         i64::MAX,
     ];
-    let mut values = vec![own - 1, own + 1, random.next() as i64];
+    let mut values = vec![own - 1, own + 1, random.number() as i64];
     let limit = limits[random.below(limits.len())];
     values.extend([limit - 1, limit, limit.wrapping_add(1)]);
     values
@@ -276,7 +305,7 @@ fn damaged_images_of_any_shape() {
         let mut image = draft.bytes();
         match random.below(12) {
             0 => image.truncate(random.below(image.len())),
-            1 => image.push(random.next() as u8),
+            1 => image.push(random.number() as u8),
             _ => {}
         }
         same_answers(&image, n);
@@ -358,7 +387,7 @@ fn the_most_classes() {
         draft.cells[0].outgoing = outgoing;
         draft.cells[1].incoming = outgoing;
         draft.cells[1].words = vec![(0, 0); 2 * usize::from(outgoing)];
-        draft.bits = drafts::total_bits(&draft);
+        draft.bits = drafts::total_bits(&draft.cells);
         let passes = outgoing <= 2_048;
         assert_eq!(same_run(&draft.bytes(), 5).is_ok(), passes);
         same_answers(&draft.bytes(), 12);

@@ -1,11 +1,11 @@
-//! Walk: lists that Build made, other lists that pass, and damaged ones.
+//! Walk: the lists of tables, other lists that pass, and damaged ones.
 
-mod common;
-
-use common::{node_numbers, tables, Random, GREATEST, LEAST, MOST_WEIGHT};
 use panstrait_compare::answers;
 use panstrait_reference as reference;
 use panstrait_reference::Refusal;
+use panstrait_samples::{
+    cases, node_numbers, oracle, tables, Random, GREATEST, LEAST, MOST_WEIGHT,
+};
 
 /// Both programs' answers.
 fn same_walk(n: usize, offset: i32, records: &[i32], x: usize) -> Result<i32, Refusal> {
@@ -28,13 +28,13 @@ fn inputs(n: usize, random: &mut Random) -> Vec<usize> {
 }
 
 #[test]
-fn built_lists() {
+fn lists_of_tables() {
     let mut random = Random(21);
     for n in 1..=12 {
-        for table in common::tables_of(n, &mut random, 20) {
-            let (built, records) = common::built(n, &table);
+        for table in tables::all(n, &mut random, 20) {
+            let records = oracle::records(n, &table);
             for x in inputs(n, &mut random) {
-                assert_eq!(same_walk(n, built.offset, &records, x), Ok(table[x]));
+                assert_eq!(same_walk(n, table[0], &records, x), Ok(table[x]));
             }
         }
     }
@@ -42,10 +42,10 @@ fn built_lists() {
 
 #[test]
 fn every_input_of_a_large_list() {
-    let table = common::all_different(12);
-    let (built, records) = common::built(12, &table);
+    let table = tables::all_different(12);
+    let records = oracle::records(12, &table);
     for (x, &value) in table.iter().enumerate() {
-        assert_eq!(same_walk(12, built.offset, &records, x), Ok(value));
+        assert_eq!(same_walk(12, table[0], &records, x), Ok(value));
     }
 }
 
@@ -136,8 +136,8 @@ fn damaged_short_lists() {
     for n in 1..=6 {
         for _ in 0..20 {
             let table = tables::random(n, &mut random);
-            let (built, records) = common::built(n, &table);
-            damage(n, built.offset, &records, 0..records.len());
+            let records = oracle::records(n, &table);
+            damage(n, table[0], &records, 0..records.len());
             let records = passing_list(n, &mut random);
             damage(n, 0, &records, 0..records.len());
         }
@@ -148,10 +148,11 @@ fn damaged_short_lists() {
 fn damaged_long_lists() {
     let mut random = Random(24);
     for n in [9, 12] {
-        let (built, records) = common::built(n, &common::all_different(n));
+        let table = tables::all_different(n);
+        let records = oracle::records(n, &table);
         let ends = [0, 1, 2, 3].map(|back| records.len() - 1 - back);
         let places: Vec<usize> = (0..60).map(|_| random.below(records.len())).collect();
-        damage(n, built.offset, &records, places.into_iter().chain(ends));
+        damage(n, table[0], &records, places.into_iter().chain(ends));
     }
 }
 
@@ -171,6 +172,14 @@ fn children_that_are_not_lower() {
         for x in 0..4 {
             let _ = same_walk(2, 0, &records, x);
         }
+    }
+}
+
+#[test]
+fn fixed_lists() {
+    for case in cases::lists() {
+        let answer = same_walk(case.n, case.offset, &case.records, case.x);
+        assert_eq!(answer, case.answer, "{}", case.name);
     }
 }
 
@@ -201,8 +210,9 @@ fn offsets_and_inputs_out_of_range() {
 
 #[test]
 fn variables_out_of_range() {
-    for n in [0, 13, 31, 32, 63, 64, 65, 1 << 32, usize::MAX] {
-        for x in [0, 1, 1 << 13, usize::MAX] {
+    let wrong = [0, 13, 31, 32, 63, 64, 65, 1 << 32, usize::MAX];
+    for n in wrong.into_iter().chain(cases::WRAPPED_3) {
+        for x in [0, 1, 7, 8, 1 << 13, usize::MAX] {
             assert_eq!(same_walk(n, 0, &[], x), Err(1));
             assert_eq!(same_walk(n, 0, &[0, 0, 0, 1], x), Err(1));
         }

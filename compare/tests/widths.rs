@@ -1,10 +1,8 @@
 //! Rail widths and weight widths.
 
-mod common;
-
-use common::Random;
 use panstrait_compare::proved;
 use panstrait_reference as reference;
+use panstrait_samples::Random;
 
 /// Numbers around every power of two up to 2^32.
 fn around_powers() -> impl Iterator<Item = i64> {
@@ -38,7 +36,7 @@ fn rail_widths_around_powers_of_two() {
 fn rail_widths_of_random_counts() {
     let mut random = Random(1);
     for _ in 0..100_000 {
-        let count = (random.next() >> (32 + random.below(32))) as u32;
+        let count = (random.number() >> (32 + random.below(32))) as u32;
         assert_eq!(
             proved::rail_width(count),
             reference::rail_width(count as usize),
@@ -82,7 +80,7 @@ fn weight_widths_of_small_pairs() {
 fn weight_widths_of_random_pairs() {
     let mut random = Random(2);
     for _ in 0..300_000 {
-        let mut weight = || random.next() as i32 >> random.below(32);
+        let mut weight = || random.number() as i32 >> random.below(32);
         same_weight_width(weight(), weight());
     }
 }

@@ -12,7 +12,10 @@ pub struct Compiled {
     pub length: usize,
     /// Build's node count.
     pub nodes: usize,
-    pub plan: Planned,
+    /// Plan's cells.
+    pub cells: Vec<Cell>,
+    /// Plan's total bits.
+    pub bits: usize,
 }
 
 /// Compile: the table's image, into the first bytes of the image buffer.
@@ -29,7 +32,8 @@ pub fn compile(
     Ok(Compiled {
         length: bytes.len(),
         nodes: diagram::node_count(n, table),
-        plan,
+        cells: plan.cells,
+        bits: plan.bits,
     })
 }
 

@@ -86,7 +86,7 @@ pub fn walk(n: usize, offset: i32, records: &[i32], x: usize) -> Result<i32, Ref
 }
 
 fn well_formed(n: usize, records: &[i32]) -> bool {
-    records.len().is_multiple_of(4)
+    records.len() % 4 == 0
         && records.len() <= ranges::most_record_numbers(n)
         && (1..=records.len() / 4).all(|number| record_well_formed(n, records, number))
 }

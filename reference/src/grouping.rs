@@ -15,9 +15,11 @@ pub struct Cell {
     pub bits: usize,
 }
 
-/// The chosen grouping: its cells from the top down, and its cost.
+/// What Plan answers: the chosen grouping, its cells from the top down, and its
+/// cost.
 #[derive(Debug, Clone, PartialEq, Eq)]
 pub struct Planned {
+    pub sizes: Vec<usize>,
     pub cells: Vec<Cell>,
     pub bits: usize,
 }
@@ -116,30 +118,23 @@ pub(crate) fn plan_with_cuts(
 fn choose(cuts: &Cuts, limit: usize) -> Option<Planned> {
     let known = cuts.fitting_cells(limit);
     groupings(cuts.n)
-        .filter_map(|sizes| cells_of(&sizes, &known))
-        .map(|cells| Planned {
-            bits: cells.iter().map(|cell| cell.bits).sum(),
-            cells,
-        })
+        .filter_map(|sizes| planned(sizes, &known))
         .min_by(|one, other| {
-            let wider_first = || sizes_of(other).cmp(sizes_of(one));
+            let wider_first = || other.sizes.cmp(&one.sizes);
             one.bits.cmp(&other.bits).then_with(wider_first)
         })
 }
 
-fn sizes_of(planned: &Planned) -> impl Iterator<Item = usize> + '_ {
-    planned.cells.iter().map(|cell| cell.group)
-}
-
-/// The cells of a grouping, if each of them fits.
-fn cells_of(sizes: &[usize], known: &[Vec<Option<Cell>>]) -> Option<Vec<Cell>> {
+/// A grouping with its cells and its cost, if each cell fits.
+fn planned(sizes: Vec<usize>, known: &[Vec<Option<Cell>>]) -> Option<Planned> {
     let mut cut = 0;
     let mut cells = Vec::new();
-    for &group in sizes {
+    for &group in &sizes {
         cells.push(known[cut][group - 1].clone()?);
         cut += group;
     }
-    Some(cells)
+    let bits = cells.iter().map(|cell| cell.bits).sum();
+    Some(Planned { sizes, cells, bits })
 }
 
 /// All 2^(n-1) groupings, one for each choice among the n-1 inner cuts.

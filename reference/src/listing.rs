@@ -17,17 +17,17 @@ pub fn listing(input: &[u8]) -> Vec<u8> {
 }
 
 fn list(input: &[u8]) -> Result<String, Refusal> {
-    let [n, limit, values @ ..] = input else {
-        return Err(TABLE_LENGTH);
+    let (n, limit, values) = match input {
+        [n, limit, values @ ..] => (usize::from(*n), usize::from(*limit), values),
+        _ => return Err(TABLE_LENGTH),
     };
-    let n = usize::from(*n);
     // A wrong byte count takes the place of a wrong table length, after n.
     require(ranges::size(n), SIZE)?;
     require(values.len() == 4 << n, TABLE_LENGTH)?;
-    let (values, _) = values.as_chunks();
-    let table: Vec<i32> = values.iter().map(|&v| i32::from_be_bytes(v)).collect();
+    let value = |v: &[u8]| i32::from_be_bytes([v[0], v[1], v[2], v[3]]);
+    let table: Vec<i32> = values.chunks_exact(4).map(value).collect();
     let mut image = vec![0; IMAGE_BUFFER_LENGTH];
-    let compiled = compile(n, &table, usize::from(*limit), &mut image)?;
+    let compiled = compile(n, &table, limit, &mut image)?;
     let mut nodes = vec![0; ranges::most_record_numbers(n)];
     let built = build(n, &table, &mut nodes)?;
     Ok(text(n, &built, &nodes, &compiled))
@@ -40,11 +40,11 @@ fn text(n: usize, built: &Built, nodes: &[i32], compiled: &Compiled) -> String {
         text += &format!("node {number} {}\n", fields.join(" "));
     }
     text += &format!("nodes {}\n", compiled.nodes);
-    for cell in &compiled.plan.cells {
+    for cell in &compiled.cells {
         text += &format!(
             "cell {} {} {} {} {}\n",
             cell.group, cell.incoming, cell.outgoing, cell.width, cell.bits
         );
     }
-    text + &format!("bits {}\n", compiled.plan.bits)
+    text + &format!("bits {}\n", compiled.bits)
 }

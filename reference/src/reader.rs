@@ -131,9 +131,9 @@ impl Reader<'_> {
     fn command<const OPERANDS: usize>(&mut self, due: u8) -> Result<[u8; OPERANDS], Refusal> {
         let (&byte, rest) = self.left.split_first().ok_or(CUT_OFF)?;
         require(byte == due, COMMAND)?;
-        let (operands, rest) = rest.split_first_chunk().ok_or(CUT_OFF)?;
-        self.left = rest;
-        Ok(*operands)
+        let operands = rest.get(..OPERANDS).ok_or(CUT_OFF)?;
+        self.left = &rest[OPERANDS..];
+        Ok(operands.try_into().expect("as many as were asked for"))
     }
 
     fn open(&mut self) -> Result<(usize, i32), Refusal> {

@@ -4,6 +4,7 @@ mod common;
 
 use common::*;
 use panstrait_reference::*;
+use panstrait_samples::*;
 
 const FIGURE_CELLS: [[usize; 5]; 3] = [[2, 1, 2, 4, 20], [1, 2, 2, 2, 12], [1, 2, 1, 2, 8]];
 
@@ -43,9 +44,11 @@ fn p1_operations() {
     let (answer, image) = compiled(4, &FIGURE, 4).unwrap();
     assert_eq!(image, figure_draft().bytes());
     assert_eq!((answer.nodes, answer.length), (6, image.len()));
-    assert_eq!(answer.plan, plan(4, &FIGURE, 4).unwrap());
-    assert_eq!(fields(&answer.plan.cells), FIGURE_CELLS);
-    assert_eq!(answer.plan.bits, 40);
+    assert_eq!(fields(&answer.cells), FIGURE_CELLS);
+    assert_eq!(answer.bits, 40);
+    let planned = plan(4, &FIGURE, 4).unwrap();
+    assert_eq!(planned.sizes, [2, 1, 1]);
+    assert_eq!((planned.cells, planned.bits), (answer.cells, answer.bits));
 }
 
 #[test]
@@ -91,8 +94,8 @@ fn p5_to_p8_costs() {
 #[test]
 fn p9_constant() {
     let (answer, _) = compiled(2, &[7; 4], 2).unwrap();
-    assert_eq!(fields(&answer.plan.cells), [[2, 1, 1, 0, 0]]);
-    assert_eq!((answer.plan.bits, answer.nodes), (0, 1));
+    assert_eq!(fields(&answer.cells), [[2, 1, 1, 0, 0]]);
+    assert_eq!((answer.bits, answer.nodes), (0, 1));
     let (answer, records) = built(2, &[7; 4]);
     assert_eq!(answer.nodes, 1);
     assert!(records.is_empty());
@@ -110,7 +113,8 @@ fn n_12_is_taken_and_13_refused() {
     assert_eq!(run(&image, 4095).map(|ran| ran.value), Ok(1365));
     let (_, records) = built(12, &table);
     assert_eq!(walk(12, 0, &records, 4095), Ok(1365));
-    assert_eq!(answer.plan, plan(12, &table, 12).unwrap());
+    let planned = plan(12, &table, 12).unwrap();
+    assert_eq!((planned.cells, planned.bits), (answer.cells, answer.bits));
 
     let table = vec![0; 1 << 13];
     let mut nodes = vec![NUMBER; node_numbers(13)];

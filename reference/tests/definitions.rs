@@ -4,7 +4,7 @@ mod common;
 
 use common::*;
 use panstrait_reference::*;
-use tables::Random;
+use panstrait_samples::*;
 
 #[test]
 fn classes_of_the_figure() {
@@ -30,6 +30,17 @@ fn classes_by_a_map_of_differences() {
                 assert_eq!(classes(n, &table, cut), oracle::classes(n, &table, cut));
             }
         }
+    }
+}
+
+/// Differences that are equal only modulo 2^32 are not equal.
+#[test]
+fn differences_beyond_32_bits() {
+    assert_eq!(classes(2, &[i32::MIN, i32::MAX, 0, -1], 1), [0, 1]);
+    let rise = (1 << 32) - 1;
+    for (p, jumps) in [(rise - 1, 1), (rise, 0)] {
+        let bound = node_bound(1, &[i32::MIN, i32::MAX], p, 1);
+        assert_eq!(bound, 1 + i128::from(p) + 1 + (jumps - 1));
     }
 }
 
@@ -158,6 +169,42 @@ fn trap_width_of_4() {
 }
 
 #[test]
+fn a_tie_of_a_wide_first_group_and_fewer_cells() {
+    let cascade = Cascade::new(4, &cases::TIE);
+    let two_cells = cascade.cost(0, 1) + cascade.cost(1, 3);
+    let planned = plan(4, &cases::TIE, 4).unwrap();
+    assert_eq!((planned.bits, two_cells), (40, 40));
+    assert_eq!(planned.sizes, [2, 1, 1]);
+    let expected = [[2, 1, 3, 4, 24], [1, 3, 2, 0, 8], [1, 2, 1, 2, 8]];
+    assert_eq!(fields(&planned.cells), expected);
+}
+
+#[test]
+fn more_than_256_classes_at_a_chosen_cut() {
+    let table = tables::many_classes();
+    let expected = [
+        [5, 1, 32, 24, 32 * (5 + 24)],
+        [4, 32, 300, 19, 512 * (9 + 19)],
+        [3, 300, 1, 2, 4_096 * 2],
+    ];
+    let (answer, image) = compiled(12, &table, 12).unwrap();
+    assert_eq!(fields(&answer.cells), expected);
+    assert_eq!(image, Cascade::new(12, &table).draft(&[5, 4, 3]).bytes());
+}
+
+/// As long an image as a chosen grouping is known to have.
+#[test]
+fn a_long_image() {
+    let (answer, _) = compiled(12, &tables::long_image(), 12).unwrap();
+    let expected = [
+        [10, 1, 1_024, 25, 1_024 * (10 + 25)],
+        [2, 1_024, 1, 4, 4_096 * 4],
+    ];
+    assert_eq!(fields(&answer.cells), expected);
+    assert_eq!(answer.length, 6 + 7 * (1 + 1_024) + 7 * (1 + 4_096) + 5);
+}
+
+#[test]
 fn equal_costs_take_the_wider_first_group() {
     // One cell costs 4 * 3, two cost 2 * (1 + 1) + 4 * 2.
     let table = [0, 1, -1, -3];
@@ -173,5 +220,14 @@ fn equal_costs_take_the_wider_first_group() {
             }
             assert_eq!((left, planned.bits), (0, 0));
         }
+    }
+}
+
+#[test]
+fn values_as_far_apart_as_can_be() {
+    for case in cases::extreme_halves() {
+        let (answer, records) = built(case.n, &case.table);
+        assert_eq!(records, case.records);
+        assert_eq!((answer.nodes, answer.offset), (2, case.table[0]));
     }
 }

@@ -1,9 +1,7 @@
 //! The reader: each command and operand rule, broken, and their order.
 
-mod common;
-
-use common::*;
 use panstrait_reference::*;
+use panstrait_samples::*;
 
 /// What Run and Expand both say of an image.
 fn refusal(image: &[u8]) -> Option<Refusal> {
@@ -290,4 +288,35 @@ fn run_and_expand_agree_on_any_changed_byte() {
             assert!(matches!(refusal(&damaged), None | Some(11..=14)));
         }
     }
+}
+
+#[test]
+fn fixed_images_that_pass() {
+    for case in cases::passing_images() {
+        let mut values = vec![NUMBER; case.values.len()];
+        assert_eq!(expand(&case.image, &mut values), Ok(()), "{}", case.name);
+        assert!(values == case.values, "{}", case.name);
+        for x in case.inputs() {
+            let (value, words) = (values[x], case.words);
+            let ran = run(&case.image, x);
+            assert_eq!(ran, Ok(Ran { value, words }), "{}, X {x}", case.name);
+        }
+    }
+}
+
+#[test]
+fn fixed_images_that_are_refused() {
+    for case in cases::refused_images() {
+        assert_eq!(refusal(&case.image), Some(case.refusal), "{}", case.name);
+    }
+}
+
+/// One variable a cell, and 2,048 classes at each of the eleven inner cuts.
+#[test]
+fn the_longest_fixed_image() {
+    let words = 2 + 11 * 2 * 2_048;
+    let length = 6 + 12 * 7 + words * 7 + 5;
+    assert_eq!(length, 315_501);
+    let lengths = cases::passing_images().into_iter().map(|c| c.image.len());
+    assert_eq!(lengths.max(), Some(length));
 }

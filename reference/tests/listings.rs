@@ -4,6 +4,7 @@ mod common;
 
 use common::*;
 use panstrait_reference::listing;
+use panstrait_samples::*;
 use std::io::Write;
 use std::process::{Command, Stdio};
 
@@ -15,6 +16,14 @@ fn printed(input: &[u8]) -> String {
 fn under_two_bytes() {
     for input in [&[][..], &[4], &[0], &[13], &[255]] {
         assert_eq!(printed(input), "refused 2\n");
+    }
+}
+
+/// n counts before the number of bytes.
+#[test]
+fn n_out_of_range_and_no_table() {
+    for input in [&[13, 4][..], &[0, 4], &[0, 4, 0], &[13, 4, 0], &[255, 0]] {
+        assert_eq!(printed(input), "refused 1\n");
     }
 }
 
@@ -73,6 +82,78 @@ fn small_listings() {
     );
 }
 
+/// The listing by the definitions worked out in other ways.
+fn expected(n: usize, limit: usize, table: &[i32]) -> String {
+    let cascade = Cascade::new(n, table);
+    let costs = cascade.costs();
+    let (bits, sizes) = match cascade.chosen(&costs, limit) {
+        Some(chosen) => chosen,
+        None => return "refused 9\n".into(),
+    };
+    let records = oracle::records(n, table);
+    let mut lines = vec![format!("table {n} {}", table[0])];
+    for (place, record) in records.chunks(4).enumerate() {
+        let [variable, low, high, weight] = [0, 1, 2, 3].map(|field| record[field]);
+        lines.push(format!(
+            "node {} {variable} {low} {high} {weight}",
+            place + 1
+        ));
+    }
+    lines.push(format!("nodes {}", records.len() / 4 + 1));
+    let mut cut = 0;
+    for cell in cascade.draft(&sizes).cells {
+        let (group, width) = (usize::from(cell.group), cell.width);
+        let (incoming, outgoing) = (cell.incoming, cell.outgoing);
+        let cost = costs[cut][group - 1];
+        lines.push(format!("cell {group} {incoming} {outgoing} {width} {cost}"));
+        cut += group;
+    }
+    lines.push(format!("bits {bits}"));
+    lines.join("\n") + "\n"
+}
+
+#[test]
+fn whole_listings() {
+    for n in 8..=12 {
+        for table in tables::structured(n).iter().chain(&tables::adversarial(n)) {
+            for limit in [n - 3, 12] {
+                let input = listing_input(n as u8, limit as u8, table);
+                assert_eq!(printed(&input), expected(n, limit, table));
+            }
+        }
+    }
+}
+
+/// The table of X itself: one record and one cell for each variable.
+#[test]
+fn whole_listings_by_hand() {
+    for n in 8..=12 {
+        let node = |v: usize| format!("node {} {v} {v} {v} {}\n", v + 1, 1 << v);
+        let cell = |v: usize| format!("cell 1 1 1 {} {}\n", v + 2, 2 * (v + 2));
+        let nodes: String = (0..n).map(node).collect();
+        let cells: String = (0..n).rev().map(cell).collect();
+        let (count, bits) = (n + 1, n * (n + 3));
+        let text = format!("table {n} 0\n{nodes}nodes {count}\n{cells}bits {bits}\n");
+        let input = listing_input(n as u8, 12, &tables::of(n, |x| x as i32));
+        assert_eq!(printed(&input), text);
+    }
+}
+
+/// What the program prints for its standard input.
+fn printed_by_program(input: &[u8]) -> String {
+    let mut program = Command::new(env!("CARGO_BIN_EXE_listing"))
+        .stdin(Stdio::piped())
+        .stdout(Stdio::piped())
+        .spawn()
+        .expect("the program starts");
+    let mut stdin = program.stdin.take().expect("piped");
+    stdin.write_all(input).expect("the program reads");
+    drop(stdin);
+    let output = program.wait_with_output().expect("the program ends");
+    assert!(output.status.success());
+    String::from_utf8(output.stdout).expect("plain text")
+}
+
 #[test]
 fn the_program_prints_the_listing() {
     let inputs = [
@@ -81,15 +162,20 @@ fn the_program_prints_the_listing() {
         Vec::new(),
     ];
     for input in inputs {
-        let mut program = Command::new(env!("CARGO_BIN_EXE_listing"))
-            .stdin(Stdio::piped())
-            .stdout(Stdio::piped())
-            .spawn()
-            .expect("the program starts");
-        let mut stdin = program.stdin.take().expect("piped");
-        stdin.write_all(&input).expect("the program reads");
-        drop(stdin);
-        let output = program.wait_with_output().expect("the program ends");
-        assert_eq!(output.stdout, listing(&input));
+        assert_eq!(printed_by_program(&input), printed(&input));
     }
+}
+
+#[test]
+fn the_program_on_the_longest_input() {
+    let long_image = tables::long_image();
+    let input = listing_input(12, 12, &long_image);
+    assert_eq!(printed_by_program(&input), expected(12, 12, &long_image));
+    let table = tables::all_different(12);
+    let mut input = listing_input(12, 12, &table);
+    assert_eq!(input.len(), 16_386);
+    assert_eq!(printed_by_program(&input), expected(12, 12, &table));
+    assert_eq!(printed_by_program(&input[..16_385]), "refused 2\n");
+    input.push(0);
+    assert_eq!(printed_by_program(&input), "refused 2\n");
 }

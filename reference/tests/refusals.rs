@@ -1,11 +1,17 @@
 //! Every refusal of every operation, their order, and untouched buffers.
 
-mod common;
-
-use common::*;
 use panstrait_reference::*;
+use panstrait_samples::*;
 
-const HUGE: [usize; 3] = [13, 64, usize::MAX];
+/// Numbers out of range, some of them 4 in their low bits.
+const HUGE: [usize; 6] = [
+    13,
+    64,
+    (1 << 8) + 4,
+    (1 << 16) + 4,
+    (1 << 32) + 4,
+    usize::MAX,
+];
 
 /// Build's refusal, with a node buffer that must stay as it was.
 fn build_refusal(n: usize, table: &[i32], buffer: usize) -> Refusal {
@@ -25,6 +31,26 @@ fn compile_refusal(n: usize, table: &[i32], limit: usize, buffer: usize) -> Refu
 
 fn plan_refusal(n: usize, table: &[i32], limit: usize) -> Refusal {
     plan(n, table, limit).expect_err("a refusal")
+}
+
+#[test]
+fn n_that_is_in_range_in_its_low_bits() {
+    for n in cases::WRAPPED_3 {
+        for length in [8, 0, 1, 7, 9, 16, 4_096] {
+            let table = vec![0; length];
+            assert_eq!(build_refusal(n, &table, 28), 1);
+            assert_eq!(build_refusal(n, &table, 40_000), 1);
+            for limit in [3, 12] {
+                assert_eq!(plan_refusal(n, &table, limit), 1);
+                assert_eq!(compile_refusal(n, &table, limit, 1_000), 1);
+            }
+        }
+        for records in [&[][..], &[2, 0, 0, 1]] {
+            for x in [0, 7, 8] {
+                assert_eq!(walk(n, 0, records, x), Err(1));
+            }
+        }
+    }
 }
 
 #[test]
@@ -74,23 +100,15 @@ fn plan_each() {
 }
 
 #[test]
-fn plan_order() {
-    assert_eq!(plan_refusal(0, &[i32::MAX; 3], 0), 1);
-    assert_eq!(plan_refusal(2, &[i32::MAX; 3], 0), 2);
-    assert_eq!(plan_refusal(2, &[i32::MAX; 4], 0), 3);
-    assert_eq!(plan_refusal(2, &[0, 0, 0, 1], 0), 8);
-    assert_eq!(plan_refusal(2, &[0, 0, 0, 1], 1), 9);
-}
-
-#[test]
 fn compile_each() {
     for n in [0].into_iter().chain(HUGE) {
         assert_eq!(compile_refusal(n, &FIGURE, 4, 200), 1);
     }
     assert_eq!(compile_refusal(4, &FIGURE[..15], 4, 200), 2);
     assert_eq!(compile_refusal(1, &[0, GREATEST + 1], 4, 200), 3);
-    assert_eq!(compile_refusal(4, &FIGURE, 0, 200), 8);
-    assert_eq!(compile_refusal(4, &FIGURE, 13, 200), 8);
+    for limit in [0].into_iter().chain(HUGE) {
+        assert_eq!(compile_refusal(4, &FIGURE, limit, 200), 8);
+    }
     assert_eq!(compile_refusal(4, &FIGURE, 1, 200), 9);
     let length = figure_draft().bytes().len();
     for buffer in 0..length {
@@ -101,19 +119,23 @@ fn compile_each() {
 }
 
 #[test]
-fn compile_order() {
-    assert_eq!(compile_refusal(0, &[i32::MAX; 3], 0, 0), 1);
-    assert_eq!(compile_refusal(2, &[i32::MAX; 3], 0, 0), 2);
-    assert_eq!(compile_refusal(2, &[i32::MAX; 4], 0, 0), 3);
-    assert_eq!(compile_refusal(2, &[0, 0, 0, 1], 0, 0), 8);
-    assert_eq!(compile_refusal(2, &[0, 0, 0, 1], 1, 0), 9);
-    assert_eq!(compile_refusal(2, &[0, 0, 0, 1], 2, 0), 10);
+fn plan_and_compile_order() {
+    for case in cases::refused_plans() {
+        let (n, table, limit) = (case.n, &case.table, case.limit);
+        let first = case.refusals[0];
+        let refusal = compile_refusal(n, table, limit, case.room);
+        assert_eq!(refusal, first, "n {n}: {:?}", case.refusals);
+        if first != 10 {
+            let refusal = plan_refusal(n, table, limit);
+            assert_eq!(refusal, first, "n {n}: {:?}", case.refusals);
+        }
+    }
 }
 
 #[test]
 fn run_and_expand_after_a_sound_image() {
     let image = figure_draft().bytes();
-    for x in [16, 17, usize::MAX] {
+    for x in [16, 17, 1 << 8, 1 << 16, 1 << 32, usize::MAX] {
         assert_eq!(run(&image, x), Err(7));
     }
     for length in [0, 1, 15, 17, 32] {

@@ -4,6 +4,7 @@ mod common;
 
 use common::*;
 use panstrait_reference::*;
+use panstrait_samples::*;
 
 /// The figure's records with one number changed.
 fn changed(number: usize, field: usize, value: i32) -> Vec<i32> {
@@ -17,7 +18,9 @@ fn the_empty_list_is_the_offset() {
     for n in 1..=12 {
         assert_eq!(walk(n, -17, &[], 0), Ok(-17));
         assert_eq!(walk(n, -17, &[], (1 << n) - 1), Ok(-17));
-        assert_eq!(walk(n, -17, &[], 1 << n), Err(7));
+        for x in [1 << n, 1 << 16, 1 << 32, usize::MAX] {
+            assert_eq!(walk(n, -17, &[], x), Err(7));
+        }
     }
 }
 
@@ -117,13 +120,9 @@ fn unreduced_lists_are_walked() {
 }
 
 #[test]
-fn the_longest_path() {
-    let chain: Vec<i32> = (0..12).flat_map(|v| [v, v, v, MOST_WEIGHT]).collect();
-    assert_eq!(
-        walk(12, GREATEST, &chain, 4095),
-        Ok(GREATEST + 12 * MOST_WEIGHT)
-    );
-    assert_eq!(walk(12, GREATEST, &chain, 0), Ok(GREATEST));
-    let chain: Vec<i32> = (0..12).flat_map(|v| [v, v, v, -MOST_WEIGHT]).collect();
-    assert_eq!(walk(12, LEAST, &chain, 4095), Ok(LEAST - 12 * MOST_WEIGHT));
+fn fixed_lists() {
+    for case in cases::lists() {
+        let answer = walk(case.n, case.offset, &case.records, case.x);
+        assert_eq!(answer, case.answer, "{}", case.name);
+    }
 }

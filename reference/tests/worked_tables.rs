@@ -4,6 +4,7 @@ mod common;
 
 use common::*;
 use panstrait_reference::*;
+use panstrait_samples::*;
 
 /// Build, Walk, Compile, Expand and Run give the table back.
 fn round_trip(n: usize, table: &[i32]) {

@@ -1,13 +1,13 @@
 //! Families of tables, structured and pseudo-random with fixed seeds.
 
-use super::{GREATEST, LEAST};
+use crate::{GREATEST, LEAST};
 use std::f64::consts::PI;
 
 /// A small generator of pseudo-random numbers (splitmix64).
 pub struct Random(pub u64);
 
 impl Random {
-    pub fn next(&mut self) -> u64 {
+    pub fn number(&mut self) -> u64 {
         self.0 = self.0.wrapping_add(0x9E37_79B9_7F4A_7C15);
         let mut z = self.0;
         z = (z ^ (z >> 30)).wrapping_mul(0xBF58_476D_1CE4_E5B9);
@@ -16,7 +16,7 @@ impl Random {
     }
 
     pub fn below(&mut self, bound: usize) -> usize {
-        (self.next() % bound as u64) as usize
+        (self.number() % bound as u64) as usize
     }
 
     /// A number from `least` to `greatest`.
@@ -119,4 +119,81 @@ fn joined(pool: &[Vec<i32>], random: &mut Random) -> Vec<i32> {
     };
     block.extend(upper.iter().map(|v| v + shift));
     block
+}
+
+/// Tables whose blocks are hard to tell apart, for every n.
+pub fn adversarial(n: usize) -> Vec<Vec<i32>> {
+    let mut all = vec![
+        all_different(n),
+        // Blocks repeat with period 3, so that no half equals the other.
+        of(n, |x| (x % 3) as i32),
+        // One value differs, the first or the middle one.
+        of(n, |x| i32::from(x == 0)),
+        of(n, |x| i32::from(x == (1 << n) / 2)),
+        // Halves equal up to a shift at one height alone.
+        of(n, |x| {
+            if x >> (n - 1) == 1 {
+                GREATEST - (x & 7) as i32
+            } else {
+                LEAST + (x & 7) as i32
+            }
+        }),
+    ];
+    all.extend((0..=n).map(|height| last_value_differs(n, height)));
+    all
+}
+
+/// No two blocks of one height above 0 have equal differences, and each has a
+/// record.
+pub fn all_different(n: usize) -> Vec<i32> {
+    of(n, |x| (x * (x + 1) / 2) as i32)
+}
+
+/// The blocks of one height agree up to their last value, which is another in
+/// each.
+pub fn last_value_differs(n: usize, height: usize) -> Vec<i32> {
+    let last = (1 << height) - 1;
+    of(n, |x| {
+        if x & last == last {
+            (x >> height) as i32 + 1
+        } else {
+            0
+        }
+    })
+}
+
+/// A table over 12 variables whose grouping of least cost is 5, 4, 3, with 300
+/// classes at cut 9: blocks far apart, whose differences are the block's number
+/// modulo 300 in four-valued digits, -2 to 1.
+pub fn many_classes() -> Vec<i32> {
+    of(12, |x| {
+        let (block, place) = (x >> 3, x & 7);
+        let digit = match place {
+            1..=5 => ((block % 300) >> (2 * (place - 1)) & 3) as i32 - 2,
+            _ => 0,
+        };
+        16_000 * block as i32 - 4_000_000 + digit
+    })
+}
+
+/// A table over 12 variables whose grouping of least cost is 10, 2, with 1,024
+/// classes between: blocks of four, far apart in no order, whose differences
+/// are the block's number in digits of four bits, -8 to 7.
+pub fn long_image() -> Vec<i32> {
+    of(12, |x| {
+        let (block, place) = (x >> 2, x & 3);
+        let digit = match place {
+            0 => 0,
+            _ => (block >> (4 * (place - 1)) & 15) as i32 - 8,
+        };
+        (block * 7_919_117 % 16_000_001) as i32 - 8_000_000 + digit
+    })
+}
+
+/// Structured, adversarial and pseudo-random tables over n variables.
+pub fn all(n: usize, random: &mut Random, count: usize) -> Vec<Vec<i32>> {
+    let mut all = structured(n);
+    all.extend(adversarial(n));
+    all.extend((0..count).map(|_| self::random(n, random)));
+    all
 }

@@ -1,7 +1,120 @@
-//! Images by hand: pseudo-random ones that pass, and ways to damage one.
+//! Images by hand: sound or not, pseudo-random ones that pass, and ways to
+//! damage one.
 
-use super::reference::oracle::{rail, width};
-use super::{Draft, DraftCell, Random, GREATEST, LEAST, MOST_WEIGHT};
+use crate::oracle::{rail, width};
+use crate::{Random, GREATEST, LEAST, MOST_WEIGHT};
+
+/// An image by its operands, sound or not.
+#[derive(Clone)]
+pub struct Draft {
+    pub n: u8,
+    pub offset: i32,
+    pub cells: Vec<DraftCell>,
+    pub bits: u32,
+}
+
+#[derive(Clone)]
+pub struct DraftCell {
+    pub group: u8,
+    pub incoming: u16,
+    pub outgoing: u16,
+    pub width: u8,
+    pub words: Vec<(u16, i32)>,
+}
+
+impl DraftCell {
+    pub fn new(
+        group: u8,
+        incoming: u16,
+        outgoing: u16,
+        width: u8,
+        words: &[(u16, i32)],
+    ) -> DraftCell {
+        DraftCell {
+            group,
+            incoming,
+            outgoing,
+            width,
+            words: words.to_vec(),
+        }
+    }
+
+    /// The bits that the command's operands say, however wrong they are.
+    pub fn bits(&self) -> u32 {
+        let address = rail(self.incoming.into()) + usize::from(self.group);
+        let word = rail(self.outgoing.into()) + usize::from(self.width);
+        (word as u32).wrapping_shl(address as u32)
+    }
+
+    /// A cell with the least width of its weights.
+    pub fn least(group: usize, incoming: usize, outgoing: usize, words: &[(u16, i32)]) -> Self {
+        let width = least_width(words);
+        DraftCell::new(group as u8, incoming as u16, outgoing as u16, width, words)
+    }
+}
+
+impl Draft {
+    /// An image with the bits that its cells say.
+    pub fn new(n: usize, offset: i32, cells: Vec<DraftCell>) -> Draft {
+        let bits = total_bits(&cells);
+        Draft {
+            n: n as u8,
+            offset,
+            cells,
+            bits,
+        }
+    }
+
+    pub fn bytes(&self) -> Vec<u8> {
+        let mut bytes = vec![0x56, self.n];
+        bytes.extend(self.offset.to_be_bytes());
+        for cell in &self.cells {
+            bytes.extend([0x43, cell.group]);
+            bytes.extend(cell.incoming.to_be_bytes());
+            bytes.extend(cell.outgoing.to_be_bytes());
+            bytes.push(cell.width);
+            for (class, weight) in &cell.words {
+                bytes.push(0x57);
+                bytes.extend(class.to_be_bytes());
+                bytes.extend(weight.to_be_bytes());
+            }
+        }
+        bytes.push(0x45);
+        bytes.extend(self.bits.to_be_bytes());
+        bytes
+    }
+
+    /// Where the command bytes of `bytes` stand.
+    pub fn command_places(&self) -> Vec<usize> {
+        let mut places = vec![0];
+        let mut place = 6;
+        for cell in &self.cells {
+            places.push(place);
+            place += 7;
+            for _ in &cell.words {
+                places.push(place);
+                place += 7;
+            }
+        }
+        places.push(place);
+        places
+    }
+}
+
+/// The image of `FIGURE` with address limit 4, worked out by hand.
+pub fn figure_draft() -> Draft {
+    let cell = DraftCell::new;
+    Draft {
+        n: 4,
+        offset: 0,
+        cells: vec![
+            cell(2, 1, 2, 4, &[(0, 0), (1, 1), (1, 4), (0, 7)]),
+            cell(1, 2, 2, 2, &[(0, 0), (0, 0), (0, 0), (1, 1)]),
+            cell(1, 2, 1, 2, &[(0, 0), (0, 0), (0, 0), (0, 1)]),
+        ],
+        bits: 40,
+    }
+}
 
 /// An image that passes every check, of any shape.
 pub fn passing(random: &mut Random) -> Draft {
@@ -22,14 +135,7 @@ pub fn passing(random: &mut Random) -> Draft {
         cells.push(passing_cell(group, incoming, outgoing, random));
         incoming = outgoing;
     }
-    let mut draft = Draft {
-        n: n as u8,
-        offset: random.between(LEAST, GREATEST),
-        cells,
-        bits: 0,
-    };
-    draft.bits = total_bits(&draft);
-    draft
+    Draft::new(n, random.between(LEAST, GREATEST), cells)
 }
 
 fn passing_cell(group: usize, incoming: usize, outgoing: usize, random: &mut Random) -> DraftCell {
@@ -44,22 +150,16 @@ fn passing_cell(group: usize, incoming: usize, outgoing: usize, random: &mut Ran
         (random.below(outgoing) as u16, weight)
     });
     let words: Vec<(u16, i32)> = words.collect();
-    let width = least_width(&words);
-    DraftCell::new(group as u8, incoming as u16, outgoing as u16, width, &words)
+    DraftCell::least(group, incoming, outgoing, &words)
 }
 
 fn least_width(words: &[(u16, i32)]) -> u8 {
     words.iter().map(|w| width(w.1) as u8).max().unwrap_or(0)
 }
 
-/// The bits that the cells' commands say, however wrong they are.
-pub fn total_bits(draft: &Draft) -> u32 {
-    let bits = |cell: &DraftCell| {
-        let address = rail(cell.incoming.into()) + usize::from(cell.group);
-        let word = rail(cell.outgoing.into()) + usize::from(cell.width);
-        (word as u32).wrapping_shl(address as u32)
-    };
-    draft.cells.iter().map(bits).fold(0, u32::wrapping_add)
+/// The total bits that the cells say.
+pub fn total_bits(cells: &[DraftCell]) -> u32 {
+    cells.iter().map(DraftCell::bits).fold(0, u32::wrapping_add)
 }
 
 /// One change, of an operand or of the order; sometimes what depends on it is
@@ -82,7 +182,7 @@ pub fn damage(draft: &mut Draft, random: &mut Random) {
         }
     }
     if random.below(2) == 0 {
-        draft.bits = total_bits(draft);
+        draft.bits = total_bits(&draft.cells);
     }
 }
 

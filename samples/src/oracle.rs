@@ -1,7 +1,7 @@
 //! The definitions once more, in other ways: by maps of whole differences, by
 //! keys of low, high and weight, and by a dynamic programme over the cuts.
 
-use super::{Draft, DraftCell};
+use crate::{Draft, DraftCell};
 use std::collections::HashMap;
 
 /// The class of every block at a cut, by a map of differences.
@@ -102,25 +102,23 @@ impl<'a> Cascade<'a> {
     }
 
     /// Least cost and sizes within a limit, from the last cut upwards. The
-    /// widest group is tried first, so an equal cost does not replace it.
+    /// widest group is tried first, and the first of equals is the least.
     pub fn chosen(&self, costs: &[Vec<usize>], limit: usize) -> Option<(usize, Vec<usize>)> {
-        let mut best: Vec<Option<(usize, Vec<usize>)>> = vec![None; self.n + 1];
+        let mut best = vec![None; self.n + 1];
         best[self.n] = Some((0, Vec::new()));
         for cut in (0..self.n).rev() {
-            for group in (1..=self.n - cut).rev() {
-                if self.address_width(cut, group) > limit {
-                    continue;
-                }
-                let Some((rest, sizes)) = best[cut + group].clone() else {
-                    continue;
-                };
+            let fits = |&group: &usize| self.address_width(cut, group) <= limit;
+            let with_rest = |group: usize| {
+                let (rest, sizes) = best[cut + group].as_ref()?;
                 let bits = rest + costs[cut][group - 1];
-                if best[cut].as_ref().is_none_or(|(least, _)| bits < *least) {
-                    best[cut] = Some((bits, [vec![group], sizes].concat()));
-                }
-            }
+                Some((bits, [&[group], &sizes[..]].concat()))
+            };
+            let widest_first = (1..=self.n - cut).rev().filter(fits);
+            best[cut] = widest_first
+                .filter_map(with_rest)
+                .min_by_key(|(bits, _)| *bits);
         }
-        best[0].clone()
+        best.swap_remove(0)
     }
 
     /// The image of a grouping.

@@ -1,0 +1,27 @@
+//! What the tests and the benchmarks are tried on: tables, images by hand, and
+//! the paper's definitions once more, in other ways than the second program's.
+
+pub mod cases;
+pub mod drafts;
+pub mod oracle;
+pub mod tables;
+
+pub use drafts::{figure_draft, Draft, DraftCell};
+pub use oracle::Cascade;
+pub use tables::Random;
+
+pub const LEAST: i32 = -8_388_608;
+pub const GREATEST: i32 = 8_388_607;
+pub const MOST_WEIGHT: i32 = 16_777_215;
+
+/// Document 000, figure 1.
+pub const FIGURE: [i32; 16] = [0, 0, 0, 0, 1, 1, 2, 3, 4, 4, 5, 6, 7, 7, 7, 7];
+
+/// What buffers are filled with before a call.
+pub const NUMBER: i32 = 0x5EED_1234;
+pub const BYTE: u8 = 0xC7;
+
+/// The numbers a node buffer for n variables needs.
+pub fn node_numbers(n: usize) -> usize {
+    4 * ((1 << n) - 1)
+}

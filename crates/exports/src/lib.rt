@@ -1,4 +1,6 @@
 // The C interface. No function here requires anything of its caller; a refusal leaves every lent buffer as it was.
+pub mod plans;
+
 ghost use mathlib.Core.Path.{_≡_};
 ghost use mathlib.Core.List.{[], _∷_};
 ghost use Rattle.numbers.specs.Widths.{railWidth, weightWidth};

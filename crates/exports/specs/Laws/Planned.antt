@@ -1,0 +1,31 @@
+-- Plan's answer, known by cases, is what comes back through C.
+use Prim.Native.Nat.{ℕ}
+use mathlib.Core.Path.{_≡_, sym, _∙_, ap}
+use mathlib.Core.List.{List, flatMap}
+use lib.IntN.{ℤ}
+use Rattle.numbers.specs.Answers.{accepted, refused}
+use Rattle.cascade.specs.Plan.{planAnswer, judgement, Plans}
+use Rattle.cascade.specs.declared.Planned.{Planned}
+use Rattle.cascade.specs.declared.Verdict.the-variants.{Grouping, Refused}
+use Rattle.exports.specs.Plans.{cellRow, PlanGiven}
+
+module _ (n : ℕ) (table : List ℤ) (limit : ℕ) (sizes cells : List ℕ) (count bits : ℕ) (p : Planned) (plans : Plans n table limit p) where
+  -- A grouping comes back.
+  pub plan-given : (number total : ℕ) (rows : List ℕ) → p .verdict ≡ Grouping number total → rows ≡ flatMap cellRow (p .cells) → PlanGiven n table limit sizes cells count bits 0 (p .sizes) rows number total
+  unfolding judgement
+  plan-given number total rows e r =
+      let a : planAnswer n table limit ≡ accepted (record { cells = number; bits = total }) = sym (plans .judged) ∙ ap judgement e in
+      record {
+        answered = rw a;
+        sized = rw a (plans .listed);
+        celled = rw a (r ∙ ap (flatMap cellRow) (plans .priced));
+        counted = rw a;
+        summed = rw a;
+      }
+
+  -- A refusal leaves all as it was.
+  pub plan-refused : (number : ℕ) → p .verdict ≡ Refused number → PlanGiven n table limit sizes cells count bits number sizes cells count bits
+  unfolding judgement
+  plan-refused number e =
+      let a : planAnswer n table limit ≡ refused number = sym (plans .judged) ∙ ap judgement e in
+      record { answered = rw a; sized = rw a; celled = rw a; counted = rw a; summed = rw a }

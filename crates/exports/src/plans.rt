@@ -1,0 +1,57 @@
+// Plan and Compile through C.
+ghost use mathlib.Core.Path.{_≡_};
+ghost use mathlib.Core.List.{flatMap};
+ghost use Rattle.exports.specs.Plans.{cellRow, PlanGiven};
+use cascade::Cell;
+use cascade::Verdict;
+
+// Five numbers for each cell: group, incoming count, outgoing count, weight width, bits.
+fn cell_rows(cells: [Cell; 12]) -> [usize; 60]
+    ensures { λ r. ⌜ r ≡ flatMap cellRow cells ⌝ }
+{
+    let mut rows = [0usize; 60];
+    let mut k = 0;
+    while k < 12 {
+        let cell = cells[k];
+        let at = 5 * k;
+        rows[at] = cell.group;
+        rows[at + 1] = cell.incoming;
+        rows[at + 2] = cell.outgoing;
+        rows[at + 3] = cell.width;
+        rows[at + 4] = cell.bits;
+        k += 1;
+    }
+    rows
+}
+
+// Plan: the sizes of the chosen grouping and the numbers of its cells, their count and their bits, or the refusal's number.
+#[no_mangle]
+pub extern "C" fn panstrait_plan(
+    n: usize,
+    table: &[i32],
+    limit: usize,
+    sizes: &mut [usize; 12],
+    cells: &mut [usize; 60],
+    count: &mut usize,
+    bits: &mut usize,
+) -> u8
+    ensures { λ r. ⌜ PlanGiven n (now (table .entry)) limit (now (sizes .entry)) (now (cells .entry)) (now (count .entry)) (now (bits .entry)) r (now (sizes .exit)) (now (cells .exit)) (now (count .exit)) (now (bits .exit)) ⌝ }
+{
+    let planned = planner::plan(n, table, limit);
+    let verdict = planned.verdict;
+    match verdict {
+        Verdict::Grouping {
+            cells: number,
+            bits: total,
+        } => {
+            let chosen = planned.sizes;
+            *sizes = chosen;
+            let list = planned.cells;
+            *cells = cell_rows(list);
+            *count = number;
+            *bits = total;
+            0
+        }
+        Verdict::Refused(number) => number,
+    }
+}

@@ -1,11 +1,12 @@
 -- The paper's checked values P1 to P10: one list of data, under one theorem that computes through the definitions.
-use Prim.Native.Nat.{ℕ}
+use Prim.Native.Nat.{ℕ, _-_, _*_}
 use Prim.Native.String.{String}
 use mathlib.Core.Path.{_≡_, refl}
 use mathlib.Core.List.{List, [], _∷_, _++_, map, flatMap}
+use lib.ListN.{length, replicate}
 use lib.IntN.{ℤ, pos, negℤ}
-use Rattle.numbers.specs.Answers.{Answer, accepted, refused, mapAnswer}
-use Rattle.numbers.specs.Lists.{numbersFrom, every, keep, tally, sumOf, leastFrom, least}
+use Rattle.numbers.specs.Answers.{Answer, accepted, refused, mapAnswer, andThen}
+use Rattle.numbers.specs.Lists.{numbersFrom, every, keep, tally, sumOf, leastFrom, least, padded}
 use Rattle.numbers.specs.Ranges.{mostVariables, widestAddress, isVariables, isLimit, within, isValue, eqZ}
 use Rattle.numbers.specs.Widths.{railWidth, holds, enough, weightWidth, cellBits}
 use Rattle.blocks.specs.Blocks.{block, blocks, first, lowerHalf, upperHalf, differences}
@@ -14,12 +15,13 @@ use Rattle.diagram.specs.Records.{branches, kinds, recordsBelow, node, recordOf
 use Rattle.diagram.specs.Build.{ofTable, nodeRoom, build, buildAnswer}
 use Rattle.diagram.specs.Bound.{stepAt, isJump, jumps, risingKinds, nodeBound}
 use Rattle.image.specs.Bytes.{bigEndian, signedBytes, number, unsignedAt, signedAt}
-use Rattle.image.specs.Cells.{Cell, bitsOf, totalBits}
+use Rattle.image.specs.Cells.{bitsOf, totalBits}
 use Rattle.image.specs.Commands.{commandBytes, wordCommand, cellCommands, cardCommands, imageOf}
 use Rattle.cascade.specs.Cascade.{wordOf, wordsOf, cellOf, cellsFrom, cardFor}
 use Rattle.cascade.specs.Groupings.{descending, closing, groupingsWithin, groupings, addressWidth, fitsFrom, fits, cost, cheapest, firstCheapest, chosen}
-use Rattle.cascade.specs.Plan.{plan}
-use Rattle.cascade.specs.Compile.{imageFor, compile}
+use Rattle.cascade.specs.Plan.{plan, planCell, noCell, entries, sizeArray, cellArray, totals, planAnswer}
+use Rattle.cascade.specs.declared.Cell.{Cell as PlanCell}
+use Rattle.cascade.specs.Compile.{imageFor, compile, report, compileAnswer, compileCells, compileBuffer}
 use Rattle.listing.specs.Text.{ascii, decimalDigits, decimal, fields, line}
 use Rattle.listing.specs.Listing.{imageRoom, tableOf, listed, nodeLine, nodeLines, cellLine, tableText, answerText, listing}
 
@@ -27,27 +29,34 @@ use Rattle.listing.specs.Listing.{imageRoom, tableOf, listed, nodeLine, nodeLin
 data Question : Type 0 where
   -- The listing of n, A and the values.
   textOf : ℕ → ℕ → List ℤ → Question
-  -- Plan's cells and total bits for n, A and the values.
-  cellsOf : ℕ → ℕ → List ℤ → Question
-  -- The image for n, A, the values and a buffer of so many bytes.
+  -- Plan's sizes, cells, number of cells and total bits for n, A and the values.
+  planOf : ℕ → ℕ → List ℤ → Question
+  -- What Compile answers and leaves in a buffer of so many bytes for n, A and the values: length, node count, number of cells and bits, the
+  -- cells, and the buffer.
   imageIn : ℕ → ℕ → List ℤ → ℕ → Question
-  -- Build's node count for n and the values.
-  nodesOf : ℕ → List ℤ → Question
+  -- Build's and Compile's node counts for n, A and the values.
+  nodesOf : ℕ → ℕ → List ℤ → Question
   -- k and the node bound for n, the values, p and l.
   boundOf : ℕ → List ℤ → ℕ → ℕ → Question
 
-cellNumbers : Cell → List ℤ
-cellNumbers cell = pos (cell .group) ∷ pos (cell .incoming) ∷ pos (cell .outgoing) ∷ pos (cell .width) ∷ pos (bitsOf cell) ∷ []
+cellNumbers : PlanCell → List ℕ
+cellNumbers cell = cell .group ∷ cell .incoming ∷ cell .outgoing ∷ cell .width ∷ cell .bits ∷ []
 
-planNumbers : List Cell → List ℤ
-planNumbers cells = flatMap cellNumbers cells ++ pos (totalBits cells) ∷ []
+-- A buffer of so many bytes, each 99.
+filled : ℕ → List ℕ
+filled room = replicate room 99
 
 -- A case's answer by the definitions, as numbers.
 answer : Question → Answer (List ℤ)
 answer (textOf n limit table) = accepted (map pos (listing (n ∷ limit ∷ flatMap signedBytes table)))
-answer (cellsOf n limit table) = mapAnswer (λ sizes. planNumbers (cellsFrom n table 0 sizes)) (plan n table limit)
-answer (imageIn n limit table room) = mapAnswer (λ sizes. map pos (imageFor n table sizes)) (compile n table limit room)
-answer (nodesOf n table) = mapAnswer (λ s. pos (s .nodes) ∷ []) (buildAnswer n table (nodeRoom n))
+answer (planOf n limit table) =
+    mapAnswer (λ t. map pos (sizeArray (plan n table limit) ++ flatMap cellNumbers (cellArray n table (plan n table limit)) ++ t .cells ∷ t .bits ∷ []))
+    (planAnswer n table limit)
+answer (imageIn n limit table room) =
+    mapAnswer (λ r. map pos (r .imageLength ∷ r .nodes ∷ r .totals .cells ∷ r .totals .bits ∷ flatMap cellNumbers (compileCells n table limit room) ++ compileBuffer n table limit (filled room)))
+    (compileAnswer n table limit room)
+answer (nodesOf n limit table) =
+    andThen (buildAnswer n table (nodeRoom n)) (λ s. mapAnswer (λ r. map pos (s .nodes ∷ r .nodes ∷ [])) (compileAnswer n table limit 65536))
 answer (boundOf n table p l) = accepted (pos (jumps n table p) ∷ nodeBound n table p l ∷ [])
 
 record Case : Type 0 where
@@ -62,6 +71,14 @@ numbers l = accepted (map pos l)
 
 text : String → Answer (List ℤ)
 text s = numbers (ascii s)
+
+-- The entries of an array of 12 places, each of so many numbers: those past the last hold 0.
+array : ℕ → List ℕ → List ℕ
+array width entries = entries ++ replicate (12 * width - length entries) 0
+
+-- A plan of one cell that takes one variable: its numbers, and the bits in all.
+oneCell : List ℕ → ℕ → List ℕ
+oneCell cell bits = array 1 (1 ∷ []) ++ array 5 cell ++ 1 ∷ bits ∷ []
 
 -- The table of P1, P2, P3 and P10.
 figure : List ℤ
@@ -80,25 +97,27 @@ cases =
     asks (textOf 4 4 figure)
     (text "table 4 0\nnode 1 0 0 0 1\nnode 2 1 0 1 1\nnode 3 2 0 2 1\nnode 4 2 2 0 3\nnode 5 3 3 4 4\nnodes 6\ncell 2 1 2 4 20\ncell 1 2 2 2 12\ncell 1 2 1 2 8\nbits 40\n")
     -- P2
-    ∷ asks (cellsOf 4 2 figure) (numbers (2 ∷ 1 ∷ 2 ∷ 4 ∷ 20 ∷ 1 ∷ 2 ∷ 2 ∷ 2 ∷ 12 ∷ 1 ∷ 2 ∷ 1 ∷ 2 ∷ 8 ∷ 40 ∷ []))
+    ∷ asks (planOf 4 2 figure)
+    (numbers (array 1 (2 ∷ 1 ∷ 1 ∷ []) ++ array 5 (2 ∷ 1 ∷ 2 ∷ 4 ∷ 20 ∷ 1 ∷ 2 ∷ 2 ∷ 2 ∷ 12 ∷ 1 ∷ 2 ∷ 1 ∷ 2 ∷ 8 ∷ []) ++ 3 ∷ 40 ∷ []))
     -- P3
-    ∷ asks (cellsOf 4 1 figure) (refused 9)
-    -- P4, with both buffer lengths
+    ∷ asks (planOf 4 1 figure) (refused 9)
+    -- P4, with both buffer lengths, and a longer one
     ∷ asks (imageIn 1 1 (pos 5 ∷ pos 8 ∷ []) 31) (refused 10)
-    ∷ asks (imageIn 1 1 (pos 5 ∷ pos 8 ∷ []) 32) (numbers smallImage)
+    ∷ asks (imageIn 1 1 (pos 5 ∷ pos 8 ∷ []) 32) (numbers (32 ∷ 2 ∷ 1 ∷ 6 ∷ array 5 (1 ∷ 1 ∷ 1 ∷ 3 ∷ 6 ∷ []) ++ smallImage))
+    ∷ asks (imageIn 1 1 (pos 5 ∷ pos 8 ∷ []) 34) (numbers (32 ∷ 2 ∷ 1 ∷ 6 ∷ array 5 (1 ∷ 1 ∷ 1 ∷ 3 ∷ 6 ∷ []) ++ smallImage ++ 99 ∷ 99 ∷ []))
     -- P5 to P8
-    ∷ asks (cellsOf 1 1 (pos 3 ∷ pos 2 ∷ [])) (numbers (1 ∷ 1 ∷ 1 ∷ 1 ∷ 2 ∷ 2 ∷ []))
-    ∷ asks (cellsOf 1 1 (pos 2 ∷ pos 3 ∷ [])) (numbers (1 ∷ 1 ∷ 1 ∷ 2 ∷ 4 ∷ 4 ∷ []))
-    ∷ asks (cellsOf 1 1 (pos 4 ∷ pos 2 ∷ [])) (numbers (1 ∷ 1 ∷ 1 ∷ 2 ∷ 4 ∷ 4 ∷ []))
-    ∷ asks (cellsOf 1 1 (negℤ (pos 8388608) ∷ pos 8388607 ∷ [])) (numbers (1 ∷ 1 ∷ 1 ∷ 25 ∷ 50 ∷ 50 ∷ []))
+    ∷ asks (planOf 1 1 (pos 3 ∷ pos 2 ∷ [])) (numbers (oneCell (1 ∷ 1 ∷ 1 ∷ 1 ∷ 2 ∷ []) 2))
+    ∷ asks (planOf 1 1 (pos 2 ∷ pos 3 ∷ [])) (numbers (oneCell (1 ∷ 1 ∷ 1 ∷ 2 ∷ 4 ∷ []) 4))
+    ∷ asks (planOf 1 1 (pos 4 ∷ pos 2 ∷ [])) (numbers (oneCell (1 ∷ 1 ∷ 1 ∷ 2 ∷ 4 ∷ []) 4))
+    ∷ asks (planOf 1 1 (negℤ (pos 8388608) ∷ pos 8388607 ∷ [])) (numbers (oneCell (1 ∷ 1 ∷ 1 ∷ 25 ∷ 50 ∷ []) 50))
     -- P9
-    ∷ asks (cellsOf 2 2 (map pos (7 ∷ 7 ∷ 7 ∷ 7 ∷ []))) (numbers (2 ∷ 1 ∷ 1 ∷ 0 ∷ 0 ∷ 0 ∷ []))
-    ∷ asks (nodesOf 2 (map pos (7 ∷ 7 ∷ 7 ∷ 7 ∷ []))) (numbers (1 ∷ []))
+    ∷ asks (planOf 2 2 (map pos (7 ∷ 7 ∷ 7 ∷ 7 ∷ []))) (numbers (array 1 (2 ∷ []) ++ array 5 (2 ∷ 1 ∷ 1 ∷ 0 ∷ 0 ∷ []) ++ 1 ∷ 0 ∷ []))
+    ∷ asks (nodesOf 2 2 (map pos (7 ∷ 7 ∷ 7 ∷ 7 ∷ []))) (numbers (1 ∷ 1 ∷ []))
     -- P10
     ∷ asks (boundOf 4 figure 1 1) (numbers (0 ∷ 9 ∷ []))
     ∷ []
 
 -- Every case's answer is the paper's.
 checked-values : map (λ c. answer (c .question)) cases ≡ map (λ c. c .expected) cases
-unfolding cases asks answer numbers text figure smallImage cellNumbers planNumbers numbersFrom every keep tally sumOf leastFrom least mostVariables widestAddress isVariables isLimit within isValue eqZ railWidth holds enough weightWidth cellBits block blocks first lowerHalf upperHalf differences same numberIn learn learnAll distinct classes classCount classOf railAt branches kinds recordsBelow node recordOf recordsAt records recordNumbers recordSize offset nodeCount ofTable nodeRoom build buildAnswer stepAt isJump jumps risingKinds nodeBound bigEndian signedBytes number unsignedAt signedAt bitsOf totalBits commandBytes wordCommand cellCommands cardCommands imageOf wordOf wordsOf cellOf cellsFrom cardFor descending closing groupingsWithin groupings addressWidth fitsFrom fits cost cheapest firstCheapest chosen plan imageFor compile ascii decimalDigits decimal fields line imageRoom tableOf listed nodeLine nodeLines cellLine tableText answerText listing flatMap
+unfolding cases asks answer numbers text figure smallImage cellNumbers filled array oneCell numbersFrom every keep tally sumOf leastFrom least mostVariables widestAddress isVariables isLimit within isValue eqZ railWidth holds enough weightWidth cellBits block blocks first lowerHalf upperHalf differences same numberIn learn learnAll distinct classes classCount classOf railAt branches kinds recordsBelow node recordOf recordsAt records recordNumbers recordSize offset nodeCount ofTable nodeRoom build buildAnswer stepAt isJump jumps risingKinds nodeBound bigEndian signedBytes number unsignedAt signedAt bitsOf totalBits commandBytes wordCommand cellCommands cardCommands imageOf wordOf wordsOf cellOf cellsFrom cardFor descending closing groupingsWithin groupings addressWidth fitsFrom fits cost cheapest firstCheapest chosen plan planCell noCell entries sizeArray cellArray totals planAnswer imageFor compile report compileAnswer compileCells compileBuffer padded ascii decimalDigits decimal fields line imageRoom tableOf listed nodeLine nodeLines cellLine tableText answerText listing flatMap
 checked-values = refl

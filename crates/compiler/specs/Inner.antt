@@ -1,3 +1,4 @@
 -- What inner functions promise and hold.
 pub mod Counted
 pub mod Lengths
+pub mod Planned

@@ -1,3 +1,5 @@
 -- Laws about the definitions of this crate, which proofs cite.
+pub mod Compiles
 pub mod Counting
 pub mod Measuring
+pub mod Planned

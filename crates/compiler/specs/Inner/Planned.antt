@@ -1,0 +1,43 @@
+-- What compiling starts from and leaves: planned cells, and the image of their grouping.
+use Prim.Native.Nat.{ℕ}
+use mathlib.Core.Path.{_≡_}
+use mathlib.Core.Bool.{true}
+use mathlib.Core.List.{List, [], map}
+use lib.ListN.{length, take}
+use lib.Dec.{leb}
+use lib.IntN.{ℤ}
+use Rattle.numbers.specs.Answers.{Answer, accepted, unless, mapAnswer, bufferAfter}
+use Rattle.numbers.specs.Lists.{padded}
+use Rattle.numbers.specs.Ranges.{mostVariables}
+use Rattle.cascade.specs.Cascade.{cellsFrom}
+use Rattle.cascade.specs.Compile.{imageFor, report, outcome}
+use Rattle.cascade.specs.Groupings.{cost, isGrouping}
+use Rattle.cascade.specs.Plan.{planCell, noCell, cellArray}
+use Rattle.cascade.specs.declared.Cell.{Cell}
+use Rattle.cascade.specs.declared.Compiled.{Compiled}
+use Rattle.cascade.specs.declared.Outcome.the-variants.{Refused}
+
+-- The sizes of the first so many planned cells.
+unfoldable pub groups : List Cell → ℕ → List ℕ
+groups cells count = map (λ cell. cell .group) (take count cells)
+
+-- Plan's cells for a grouping of a table: their number and their bits.
+pub record PlannedAs (n : ℕ) (table : List ℤ) (sizes : List ℕ) (cells : List Cell) (count bits : ℕ) : Type 0 where
+  pub grouping : isGrouping n sizes ≡ true
+  pub listed : cells ≡ padded mostVariables noCell (map planCell (cellsFrom n table 0 sizes))
+  pub counted : count ≡ length sizes
+  pub total : bits ≡ cost n table sizes
+
+-- The image of a grouping goes into a buffer of so many bytes, or 10.
+unfoldable pub placed : ℕ → List ℤ → List ℕ → ℕ → Answer (List ℕ)
+placed n table sizes room = unless (leb (length (imageFor n table sizes)) room) 10 (accepted sizes)
+
+-- What is then answered, and left in the buffer.
+pub record Places (n : ℕ) (table : List ℤ) (sizes buffer : List ℕ) (answer : Compiled) (buffer′ : List ℕ) : Type 0 where
+  pub answered : outcome (answer .outcome) ≡ mapAnswer (report n table) (placed n table sizes (length buffer))
+  pub priced : answer .cells ≡ cellArray n table (placed n table sizes (length buffer))
+  pub left : buffer′ ≡ bufferAfter (placed n table sizes (length buffer)) (imageFor n table) buffer
+
+-- The number of a refusal beside cells of 0.
+unfoldable pub notCompiled : ℕ → Compiled
+notCompiled number = record { outcome = Refused number; cells = padded mostVariables noCell [] }

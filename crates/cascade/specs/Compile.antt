@@ -2,7 +2,7 @@
 use Prim.Native.Nat.{ℕ}
 use mathlib.Core.Path.{_≡_}
 use mathlib.Core.List.{List}
-use lib.ListN.{length}
+use lib.ListN.{length, take}
 use lib.Dec.{leb}
 use lib.IntN.{ℤ}
 use Rattle.numbers.specs.Answers.{Answer, accepted, refused, unless, mapAnswer, andThen, bufferAfter}
@@ -43,6 +43,10 @@ compileCells n table limit room = cellArray n table (compile n table limit room)
 -- What the lent image buffer holds after Compile.
 unfoldable pub compileBuffer : ℕ → List ℤ → ℕ → List ℕ → List ℕ
 compileBuffer n table limit buffer = bufferAfter (compile n table limit (length buffer)) (imageFor n table) buffer
+
+-- Compiled image (the paper's term): the first bytes of the buffer, as many as Compile's length.
+unfoldable pub compiledImage : Report → List ℕ → List ℕ
+compiledImage r buffer = take (r .imageLength) buffer
 
 -- The paper's answer that a value of the enum stands for.
 unfoldable pub outcome : Outcome → Answer Report

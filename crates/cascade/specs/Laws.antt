@@ -1,4 +1,5 @@
 -- Laws about the definitions of this crate, which proofs cite.
+pub mod Admitting
 pub mod Cards
 pub mod Cells
 pub mod Cheapest

@@ -1,25 +1,34 @@
--- Demand 3 over the definitions: Compile's answer, Run and Expand on a compiled image, and the bits that it carries.
-use Prim.Native.Nat.{ℕ, _^_, _≤_, _<_}
-use mathlib.Core.Path.{_≡_, _∙_, ap}
-use mathlib.Core.Bool.{true}
-use mathlib.Core.List.{List, [], _∷_, _++_, flatMap}
-use lib.ListN.{length, getD}
+-- What Plan and Compile answer, and what Run and Expand give on a compiled image.
+use Prim.Native.Nat.{ℕ, suc, _-_, _^_, _≤_, _<_}
+use mathlib.Core.Path.{_≡_, refl, sym, _∙_, ap, ap₂}
+use mathlib.Core.Bool.{true, true≢false}
+use mathlib.Core.List.{List, [], _∷_, _++_, map, flatMap}
+use lib.ListN.{length, getD, take, drop, replicate}
+use lib.Seq.{take-append-seam}
 use lib.IntN.{ℤ, pos}
+use lib.Signed.{_≤ℤ_}
 use borrow.Author.Tests.{le-leb, eq-eqb}
-use Rattle.numbers.specs.Answers.{accepted}
-use Rattle.numbers.specs.Ranges.{isLimit}
+use Rattle.numbers.specs.Answers.{Answer, accepted, refused, bufferAfter}
+use Rattle.numbers.specs.Lists.{padded}
+use Rattle.numbers.specs.Ranges.{isLimit, mostVariables}
 use Rattle.diagram.specs.Accepted.{Accepted}
 use Rattle.diagram.specs.Build.{ofTable}
+use Rattle.diagram.specs.Records.{records, nodeCount}
+use Rattle.diagram.specs.Bound.{nodeBound}
+use Rattle.diagram.specs.NodeBound.{node-bound}
+use Rattle.image.specs.Cells.{Cell, totalBits}
 use Rattle.image.specs.Commands.{cardCommands, cellCommands}
 use Rattle.image.specs.Reader.{reading}
 use Rattle.image.specs.Run.{run, expand}
 use Rattle.image.specs.Theorems.{card-image, card-run, card-expand}
 use Rattle.image.specs.declared.Command.the-variants as commands
 use Rattle.cascade.specs.Cascade.{cellsFrom, cardFor}
-use Rattle.cascade.specs.Compile.{imageFor, compile}
-use Rattle.cascade.specs.Groupings.{cost, chosen, isGrouping}
-use Rattle.cascade.specs.Plan.{plan}
-use Rattle.cascade.specs.Laws.Cards.{card-value, card-values}
+use Rattle.cascade.specs.Compile.{imageFor, compile, Report, report, compileAnswer, compileBuffer, compiledImage}
+use Rattle.cascade.specs.Groupings.{cost, fits, chosen, isGrouping, BestGrouping}
+use Rattle.cascade.specs.Plan.{plan, planCell, noCell, entries, sizeArray, cellArray, totals}
+use Rattle.cascade.specs.Laws.Admitting.{plan-admits, compile-admits, report-admits}
+use Rattle.cascade.specs.Laws.Cards.{cells-count, card-value, card-values}
+use Rattle.cascade.specs.Laws.Chosen.{chosen-refuses, chosen-refuses-by-nine, chosen-best}
 use Rattle.cascade.specs.Laws.WellFormed.{card-well-formed}
 
 module _ (n : ℕ) (table : List ℤ) (a : Accepted n table) where
@@ -52,3 +61,93 @@ module _ (n : ℕ) (table : List ℤ) (a : Accepted n table) where
     pub image-expands : expand (imageFor n table sizes) (2 ^ n) ≡ accepted table
     unfolding imageFor cardFor
     image-expands = card-expand (cardFor n table sizes) (card-well-formed n table a sizes grouping) ∙ ap accepted (card-values n table a sizes grouping)
+
+-- ---- the choice
+
+-- Where some grouping fits the limit, one is chosen, and it is the best: it fits, costs least, and is the widest first among equals.
+pub some-fits-chosen : (n : ℕ) (table : List ℤ) (limit : ℕ) (sizes : List ℕ) → isGrouping n sizes ≡ true → fits n table limit sizes ≡ true → (best : List ℕ) × ((chosen n table limit ≡ accepted best) × BestGrouping n table limit best)
+some-fits-chosen n table limit sizes grouping fit = either (chosen n table limit) refl
+  where
+    either : (answer : Answer (List ℕ)) → chosen n table limit ≡ answer → (best : List ℕ) × ((chosen n table limit ≡ accepted best) × BestGrouping n table limit best)
+    either (accepted best) e = (best, (e, chosen-best n table limit best e))
+    either (refused k) e = absurd (true≢false (sym fit ∙ chosen-refuses n table limit .0 (e ∙ ap refused (chosen-refuses-by-nine n table limit k e)) sizes grouping))
+
+-- ---- Plan's arrays
+
+-- A refusal has arrays of 0.
+pub plan-arrays-refused : (n : ℕ) (table : List ℤ) (k : ℕ) → (sizeArray (refused k) ≡ replicate 12 0) × (cellArray n table (refused k) ≡ replicate 12 (record { group = 0; incoming = 0; outgoing = 0; width = 0; bits = 0 }))
+unfolding sizeArray cellArray entries padded mostVariables noCell
+plan-arrays-refused n table k = (refl, refl)
+
+-- The arrays of a grouping: its sizes and the numbers of its cells, and 0 behind them.
+pub plan-arrays : (n : ℕ) (table : List ℤ) (sizes : List ℕ) → (sizeArray (accepted sizes) ≡ sizes ++ replicate (12 - length sizes) 0) × (cellArray n table (accepted sizes) ≡ map planCell (cellsFrom n table 0 sizes) ++ replicate (12 - length (map planCell (cellsFrom n table 0 sizes))) noCell)
+unfolding sizeArray cellArray entries padded mostVariables
+plan-arrays n table sizes = (refl, refl)
+
+-- ---- what Compile left
+
+module _ (n : ℕ) (table : List ℤ) (limit : ℕ) (buffer : List ℕ) (r : Report) (compiled : compileAnswer n table limit (length buffer) ≡ accepted r) where
+  -- The compiled image.
+  abbrev image : List ℕ
+  image = compiledImage r (compileBuffer n table limit buffer)
+
+  -- The table and the limit were admitted, and the image is that of the chosen grouping, with its length, its cells and its cost.
+  pub compiled-chosen : Accepted n table × ((isLimit limit ≡ true) × ((best : List ℕ) × ((chosen n table limit ≡ accepted best) × ((image ≡ imageFor n table best) × (r ≡ record { imageLength = length (imageFor n table best); nodes = nodeCount n table; totals = record { cells = length best; bits = cost n table best } })))))
+  unfolding compiledImage compileBuffer report totals cost
+  compiled-chosen =
+      let q = report-admits n table limit (length buffer) r compiled in
+      let best = q .0 in
+      let c = compile-admits n table limit (length buffer) best (q .1 .0) in
+      let p = plan-admits n table limit best (c .0) in
+      (p .0, (p .1 .0, (best, (p .1 .1, (
+        ap₂ (λ s a. take (s .imageLength) (bufferAfter a (imageFor n table) buffer)) (q .1 .1) (q .1 .0) ∙ take-append-seam (imageFor n table best) (drop (length (imageFor n table best)) buffer),
+        q .1 .1,
+      )))))
+
+  -- The grouping that it was compiled for is the best one within the limit.
+  best : List ℕ
+  best = compiled-chosen .1 .1 .0
+
+  is-best : BestGrouping n table limit best
+  unfolding best
+  is-best = chosen-best n table limit best (compiled-chosen .1 .1 .1 .0)
+
+  -- Run answers f(X) at every X below 2^n, and as many words read as Compile answered cells.
+  pub compiled-runs : (x : ℕ) → x < 2 ^ n → run image x ≡ accepted (record { value = getD table x (pos 0); words = r .totals .cells })
+  unfolding best
+  compiled-runs x l =
+      ap (λ bytes. run bytes x) (compiled-chosen .1 .1 .1 .1 .0)
+      ∙ image-runs n table (compiled-chosen .0) best (is-best .grouping) x l
+      ∙ ap (λ s. accepted (record { value = getD table x (pos 0); words = s .totals .cells })) (sym (compiled-chosen .1 .1 .1 .1 .1))
+
+  -- Expand returns the table.
+  pub compiled-expands : expand image (2 ^ n) ≡ accepted table
+  unfolding best
+  compiled-expands = ap (λ bytes. expand bytes (2 ^ n)) (compiled-chosen .1 .1 .1 .1 .0) ∙ image-expands n table (compiled-chosen .0) best (is-best .grouping)
+
+  -- It is read as cells, as many as Compile answered, that end with Compile's bits: the cost of its own cells.
+  pub compiled-bits : (cells : List Cell) × ((reading image ≡ accepted (commands.Table n (getD table 0 (pos 0)) ∷ flatMap cellCommands cells ++ commands.End (r .totals .bits) ∷ [])) × ((r .totals .cells ≡ length cells) × (r .totals .bits ≡ totalBits cells)))
+  unfolding best cost
+  compiled-bits = (
+    cellsFrom n table 0 best,
+    (
+      ap reading (compiled-chosen .1 .1 .1 .1 .0)
+          ∙ image-commands n table (compiled-chosen .0) best (is-best .grouping)
+          ∙ ap (λ s. accepted (commands.Table n (getD table 0 (pos 0)) ∷ flatMap cellCommands (cellsFrom n table 0 best) ++ commands.End (s .totals .bits) ∷ [])) (sym (compiled-chosen .1 .1 .1 .1 .1)),
+      (ap (λ s. s .totals .cells) (compiled-chosen .1 .1 .1 .1 .1) ∙ sym (cells-count n table 0 best), ap (λ s. s .totals .bits) (compiled-chosen .1 .1 .1 .1 .1)),
+    ),
+  )
+
+  -- Every grouping that fits costs at least as many.
+  pub compiled-least : (sizes : List ℕ) → isGrouping n sizes ≡ true → fits n table limit sizes ≡ true → r .totals .bits ≤ cost n table sizes
+  unfolding best
+  compiled-least sizes grouping fit = rw (ap (λ s. s .totals .bits) (compiled-chosen .1 .1 .1 .1 .1)) (is-best .least sizes grouping fit)
+
+  -- The node count is that of the reduced diagram: its records and the terminal.
+  pub compiled-nodes : r .nodes ≡ suc (length (records n table))
+  unfolding nodeCount
+  compiled-nodes = ap (λ s. s .nodes) (compiled-chosen .1 .1 .1 .1 .1)
+
+  -- It is within the node bound for every p and every l from 1 to n.
+  pub compiled-bound : (p l : ℕ) → 1 ≤ l → l ≤ n → pos (r .nodes) ≤ℤ nodeBound n table p l
+  compiled-bound p l from-one to-n = rw (ap (λ s. s .nodes) (compiled-chosen .1 .1 .1 .1 .1)) (node-bound n table (compiled-chosen .0 .size) p l from-one to-n)

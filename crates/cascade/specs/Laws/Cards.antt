@@ -1,6 +1,6 @@
 -- Running a card: after the cells down to a cut, the class and the value are those of X's block there.
 use Prim.Native.Nat.{ℕ, suc, _+_, _-_, _*_, _/_, _%_, _^_, _≤_, _<_}
-use mathlib.Core.Path.{_≡_, sym, _∙_, ap, ap₂}
+use mathlib.Core.Path.{_≡_, refl, sym, _∙_, ap, ap₂}
 use mathlib.Core.Bool.{true}
 use mathlib.Core.List.{List, [], _∷_, map}
 use native.Mathlib.Nat.{add-zero, zero-add, zero-mul, mul-one, div-one, mod-lt}
@@ -89,6 +89,12 @@ module _ (n : ℕ) (table : List ℤ) (size : length table ≡ 2 ^ n) (x : ℕ) 
       (add-sub (first (blockOfX n table x h)) (first (blockOfX n table x (h + g))))
       ∙ run-from-cut sizes (h + g) (suc words) (omega arith)
       ∙ ap (λ k. record { value = getD table x (pos 0); words = k }) (let one-more : suc words + length sizes ≡ words + suc (length sizes) = omega arith in one-more)
+
+-- The number of cells that sizes make.
+pub cells-count : (n : ℕ) (table : List ℤ) (h : ℕ) (sizes : List ℕ) → length (cellsFrom n table h sizes) ≡ length sizes
+unfolding cellsFrom
+cells-count n table h [] = refl
+cells-count n table h (g ∷ sizes) = ap suc (cells-count n table (h + g) sizes)
 
 -- The sizes of a grouping add up to n.
 pub grouping-sum : (n : ℕ) (sizes : List ℕ) → isGrouping n sizes ≡ true → sumOf sizes ≡ n

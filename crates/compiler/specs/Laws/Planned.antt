@@ -22,7 +22,8 @@ use Rattle.cascade.specs.Plan.{plan, planCell, noCell, entries, cellArray, Tota
 use Rattle.cascade.specs.declared.Cell.{Cell}
 use Rattle.cascade.specs.declared.Planned.{Planned}
 use Rattle.cascade.specs.declared.Verdict.the-variants.{Grouping}
-use Rattle.cascade.specs.Laws.Cards.{grouping-sum}
+use Rattle.cascade.specs.Laws.Admitting.{never-both, plan-admits}
+use Rattle.cascade.specs.Laws.Cards.{cells-count, grouping-sum}
 use Rattle.cascade.specs.Laws.Chosen.{chosen-best}
 use Rattle.cascade.specs.Laws.Groupings.{grouping-length}
 use Rattle.cascade.specs.Laws.Cells.{variables-most, cell-words}
@@ -34,13 +35,7 @@ use Rattle.compiler.specs.Inner.Planned.{groups, PlannedAs, placed}
 
 -- ---- planned cells
 
--- The number of cells that sizes make.
-cells-count : (n : ℕ) (table : List ℤ) (h : ℕ) (sizes : List ℕ) → length (cellsFrom n table h sizes) ≡ length sizes
-unfolding cellsFrom
-cells-count n table h [] = refl
-cells-count n table h (g ∷ sizes) = ap suc (cells-count n table (h + g) sizes)
-
--- Their bytes.
+-- The bytes of a grouping's cells.
 bytes-of : (n : ℕ) (table : List ℤ) (h : ℕ) (sizes : List ℕ) → sumOf (map plannedBytes (map planCell (cellsFrom n table h sizes))) ≡ sumOf (map (λ cell. 7 + 7 * length (cell .words)) (cellsFrom n table h sizes))
 unfolding cellsFrom sumOf plannedBytes planCell cellOf
 bytes-of n table h [] = refl
@@ -90,25 +85,6 @@ pub record Chosen (n : ℕ) (table : List ℤ) (limit : ℕ) (cells : List Cell)
   pub chosen : plan n table limit ≡ accepted sizes
   pub planned : PlannedAs n table sizes cells count bits
 
--- Nothing is accepted and refused.
-never : {A : Type 0} (a : A) (k : ℕ) → _≡_ {A = Answer A} (refused k) (accepted a) → ⊥
-never a k p = let z : _≡_ {A = ℕ} 0 1 = cc in omega arith
-
--- The checks before the choice were passed.
-pub plan-admits : (n : ℕ) (table : List ℤ) (limit : ℕ) (sizes : List ℕ) → plan n table limit ≡ accepted sizes → Accepted n table × ((isLimit limit ≡ true) × (chosen n table limit ≡ accepted sizes))
-unfolding plan
-plan-admits n table limit sizes e = checked (tableChecks n table) refl
-  where
-    rest : Answer (List ℕ)
-    rest = unless (isLimit limit) 8 (chosen n table limit)
-
-    limited : rest ≡ accepted sizes → (isLimit limit ≡ true) × (chosen n table limit ≡ accepted sizes)
-    limited f = yes-or-no (isLimit limit) (λ l. (l, rw l at f)) (λ l. absurd (never sizes 8 (rw l at f)))
-
-    checked : (answer : Answer Unit) → tableChecks n table ≡ answer → Accepted n table × ((isLimit limit ≡ true) × (chosen n table limit ≡ accepted sizes))
-    checked (accepted tt) f = (passed-table n table f, limited (sym (after-checks n table rest ∙ ap (λ a. andThen a (λ t. rest)) f) ∙ e))
-    checked (refused k) f = absurd (never sizes k (sym (after-checks n table rest ∙ ap (λ a. andThen a (λ t. rest)) f) ∙ e))
-
 pub plan-chosen : (n : ℕ) (table : List ℤ) (limit : ℕ) (p : Planned) (count bits : ℕ) → Plans n table limit p → p .verdict ≡ Grouping count bits → Chosen n table limit (p .cells) count bits
 unfolding judgement planAnswer totals cellArray entries cost
 plan-chosen n table limit p count bits plans e = either (plan n table limit) refl
@@ -126,4 +102,4 @@ plan-chosen n table limit p count bits plans e = either (plan n table limit) ref
             total = ap (λ (a : Answer Totals). elim a [ accepted t ↦ t .bits | refused k ↦ 0 ]) same;
           };
         }
-    either (refused k) f = absurd (never (record { cells = count; bits = bits }) k (sym (sym (ap judgement e) ∙ plans .judged ∙ ap (mapAnswer (totals n table)) f)))
+    either (refused k) f = absurd (never-both (record { cells = count; bits = bits }) k (sym (sym (ap judgement e) ∙ plans .judged ∙ ap (mapAnswer (totals n table)) f)))

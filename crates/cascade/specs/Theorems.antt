@@ -1,14 +1,15 @@
 -- What Plan and Compile answer, and what Run and Expand give on a compiled image.
-use Prim.Native.Nat.{ℕ, suc, _-_, _^_, _≤_, _<_}
+use Prim.Native.Nat.{ℕ, _+_, _-_, _^_, _≤_, _<_}
 use mathlib.Core.Path.{_≡_, refl, sym, _∙_, ap, ap₂}
 use mathlib.Core.Bool.{true, true≢false}
 use mathlib.Core.List.{List, [], _∷_, _++_, map, flatMap}
+use native.Mathlib.Numerals.{add-one}
 use lib.ListN.{length, getD, take, drop, replicate}
 use lib.Seq.{take-append-seam}
 use lib.IntN.{ℤ, pos}
 use lib.Signed.{_≤ℤ_}
 use borrow.Author.Tests.{le-leb, eq-eqb}
-use Rattle.numbers.specs.Answers.{Answer, accepted, refused, bufferAfter}
+use Rattle.numbers.specs.Answers.{Answer, accepted, refused, mapAnswer, bufferAfter}
 use Rattle.numbers.specs.Lists.{padded}
 use Rattle.numbers.specs.Ranges.{isLimit, mostVariables}
 use Rattle.diagram.specs.Accepted.{Accepted}
@@ -98,11 +99,22 @@ module _ (n : ℕ) (table : List ℤ) (limit : ℕ) (buffer : List ℕ) (r : Rep
       let q = report-admits n table limit (length buffer) r compiled in
       let best = q .0 in
       let c = compile-admits n table limit (length buffer) best (q .1 .0) in
-      let p = plan-admits n table limit best (c .0) in
-      (p .0, (p .1 .0, (best, (p .1 .1, (
-        ap₂ (λ s a. take (s .imageLength) (bufferAfter a (imageFor n table) buffer)) (q .1 .1) (q .1 .0) ∙ take-append-seam (imageFor n table best) (drop (length (imageFor n table best)) buffer),
-        q .1 .1,
-      )))))
+      let p = plan-admits n table limit best (c .0) in (
+        p .0,
+        (
+          p .1 .0,
+          (
+            best,
+            (
+              p .1 .1,
+              (
+                ap₂ (λ s a. take (s .imageLength) (bufferAfter a (imageFor n table) buffer)) (q .1 .1) (q .1 .0) ∙ take-append-seam (imageFor n table best) (drop (length (imageFor n table best)) buffer),
+                q .1 .1,
+              ),
+            ),
+          ),
+        ),
+      )
 
   -- The grouping that it was compiled for is the best one within the limit.
   best : List ℕ
@@ -126,16 +138,15 @@ module _ (n : ℕ) (table : List ℤ) (limit : ℕ) (buffer : List ℕ) (r : Rep
   compiled-expands = ap (λ bytes. expand bytes (2 ^ n)) (compiled-chosen .1 .1 .1 .1 .0) ∙ image-expands n table (compiled-chosen .0) best (is-best .grouping)
 
   -- It is read as cells, as many as Compile answered, that end with Compile's bits: the cost of its own cells.
-  pub compiled-bits : (cells : List Cell) × ((reading image ≡ accepted (commands.Table n (getD table 0 (pos 0)) ∷ flatMap cellCommands cells ++ commands.End (r .totals .bits) ∷ [])) × ((r .totals .cells ≡ length cells) × (r .totals .bits ≡ totalBits cells)))
+  pub compiled-bits : (cells : List Cell) × (reading image ≡ accepted (commands.Table n (getD table 0 (pos 0)) ∷ flatMap cellCommands cells ++ commands.End (r .totals .bits) ∷ [])) × (r .totals .cells ≡ length cells) × (r .totals .bits ≡ totalBits cells)
   unfolding best cost
   compiled-bits = (
     cellsFrom n table 0 best,
-    (
-      ap reading (compiled-chosen .1 .1 .1 .1 .0)
-          ∙ image-commands n table (compiled-chosen .0) best (is-best .grouping)
-          ∙ ap (λ s. accepted (commands.Table n (getD table 0 (pos 0)) ∷ flatMap cellCommands (cellsFrom n table 0 best) ++ commands.End (s .totals .bits) ∷ [])) (sym (compiled-chosen .1 .1 .1 .1 .1)),
-      (ap (λ s. s .totals .cells) (compiled-chosen .1 .1 .1 .1 .1) ∙ sym (cells-count n table 0 best), ap (λ s. s .totals .bits) (compiled-chosen .1 .1 .1 .1 .1)),
-    ),
+    ap reading (compiled-chosen .1 .1 .1 .1 .0)
+        ∙ image-commands n table (compiled-chosen .0) best (is-best .grouping)
+        ∙ ap (λ s. accepted (commands.Table n (getD table 0 (pos 0)) ∷ flatMap cellCommands (cellsFrom n table 0 best) ++ commands.End (s .totals .bits) ∷ [])) (sym (compiled-chosen .1 .1 .1 .1 .1)),
+    ap (λ s. s .totals .cells) (compiled-chosen .1 .1 .1 .1 .1) ∙ sym (cells-count n table 0 best),
+    ap (λ s. s .totals .bits) (compiled-chosen .1 .1 .1 .1 .1),
   )
 
   -- Every grouping that fits costs at least as many.
@@ -144,10 +155,29 @@ module _ (n : ℕ) (table : List ℤ) (limit : ℕ) (buffer : List ℕ) (r : Rep
   compiled-least sizes grouping fit = rw (ap (λ s. s .totals .bits) (compiled-chosen .1 .1 .1 .1 .1)) (is-best .least sizes grouping fit)
 
   -- The node count is that of the reduced diagram: its records and the terminal.
-  pub compiled-nodes : r .nodes ≡ suc (length (records n table))
+  pub compiled-nodes : r .nodes ≡ length (records n table) + 1
   unfolding nodeCount
-  compiled-nodes = ap (λ s. s .nodes) (compiled-chosen .1 .1 .1 .1 .1)
+  compiled-nodes = ap (λ s. s .nodes) (compiled-chosen .1 .1 .1 .1 .1) ∙ sym (add-one (length (records n table)))
 
   -- It is within the node bound for every p and every l from 1 to n.
   pub compiled-bound : (p l : ℕ) → 1 ≤ l → l ≤ n → pos (r .nodes) ≤ℤ nodeBound n table p l
   compiled-bound p l from-one to-n = rw (ap (λ s. s .nodes) (compiled-chosen .1 .1 .1 .1 .1)) (node-bound n table (compiled-chosen .0 .size) p l from-one to-n)
+
+-- Where some grouping fits, Compile gives the image of the chosen one into every buffer that is no shorter, with its cells and its cost.
+pub compile-gives : (n : ℕ) (table : List ℤ) → Accepted n table → (limit : ℕ) → isLimit limit ≡ true → (sizes : List ℕ) → isGrouping n sizes ≡ true → fits n table limit sizes ≡ true
+    → (best : List ℕ) × BestGrouping n table limit best × ((buffer : List ℕ) → length (imageFor n table best) ≤ length buffer → (r : Report) × (compileAnswer n table limit (length buffer) ≡ accepted r) × (compiledImage r (compileBuffer n table limit buffer) ≡ imageFor n table best) × (r .totals .cells ≡ length best) × (r .totals .bits ≡ cost n table best))
+unfolding compileAnswer compiledImage compileBuffer report totals cost
+compile-gives n table a limit l sizes grouping fit =
+    let some = some-fits-chosen n table limit sizes grouping fit in
+    let best = some .0 in (
+      best,
+      some .1 .1,
+      λ buffer room.
+          let e = compile-chooses n table a limit (length buffer) l best (some .1 .0) room in (
+            report n table best,
+            ap (mapAnswer (report n table)) e,
+            ap (λ answer. take (length (imageFor n table best)) (bufferAfter answer (imageFor n table) buffer)) e ∙ take-append-seam (imageFor n table best) (drop (length (imageFor n table best)) buffer),
+            refl,
+            refl,
+          ),
+    )

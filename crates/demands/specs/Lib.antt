@@ -1,2 +1,3 @@
 -- What the table compiler as a whole is trusted for, and the paper's checked values.
 pub mod CheckedList
+pub mod Demands

@@ -1,6 +1,6 @@
 // Big-endian numbers of fixed width, written into a buffer.
 ghost use mathlib.Core.Path.{_≡_};
-ghost use Prim.Native.Nat.{_+_, _^_, _≤_, _<_};
+ghost use Prim.Native.Nat.{_+_, _≤_, _<_};
 ghost use lib.ListN.{length};
 ghost use Rattle.numbers.specs.Inner.Rows.{overwritten};
 ghost use Rattle.image.specs.Bytes.{bigEndian, signedBytes};
@@ -28,9 +28,10 @@ pub(crate) fn write_signed(buffer: &mut [u8], at: usize, number: i32)
     requires { ⌜ at + 4 ≤ length (now buffer) ⌝ }
     ensures { λ _. ⌜ now (buffer .exit) ≡ overwritten (now (buffer .entry)) at (signedBytes number) ⌝ }
 {
+    let magnitude = numbers::magnitude(number) as usize;
     if number < 0 {
-        write_four(buffer, at, 4294967295 - ((-1 - number) as usize));
+        write_four(buffer, at, 4294967295 - magnitude);
     } else {
-        write_four(buffer, at, number as usize);
+        write_four(buffer, at, magnitude);
     }
 }

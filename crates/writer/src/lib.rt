@@ -3,14 +3,13 @@ mod bytes;
 mod commands;
 
 ghost use mathlib.Core.Path.{_≡_};
-ghost use mathlib.Core.List.{map, flatMap};
 ghost use Prim.Native.Nat.{_+_, _*_, _^_, _≤_};
-ghost use lib.ListN.{length, drop};
+ghost use lib.ListN.{length};
 ghost use Rattle.numbers.specs.Inner.Rows.{overwritten};
-ghost use Rattle.image.specs.Commands.{commandBytes, wordCommand};
 ghost use Rattle.cascade.specs.Cascade.{cellOf};
 ghost use Rattle.cascade.specs.Compile.{imageFor};
-ghost use Rattle.writer.specs.Inner.Writing.{cellBytes, groups, RowsKnown, CellPlanned, CellsPlanned};
+ghost use Rattle.cascade.specs.Groupings.{cost};
+ghost use Rattle.writer.specs.Inner.Writing.{wordBytes, cellBytes, cellsBytes, groups, RowsKnown, CellPlanned, CellsPlanned};
 use cascade::Cell;
 
 // The words of a cell from cut h, behind its command, in the tail that is left of the image.
@@ -25,7 +24,7 @@ fn write_words(
 )
     requires { ⌜ RowsKnown n (now table) (now classes) (now firsts) × CellPlanned n h (now table) cell ⌝ }
     requires { ⌜ 7 + 7 * (cell .incoming * 2 ^ cell .group) ≤ length (now tail) ⌝ }
-    ensures { λ _. ⌜ now (tail .exit) ≡ overwritten (now (tail .entry)) 7 (flatMap commandBytes (map wordCommand (cellOf n (now (table .entry)) h (cell .group) .words))) ⌝ }
+    ensures { λ _. ⌜ now (tail .exit) ≡ overwritten (now (tail .entry)) 7 (wordBytes (cellOf n (now (table .entry)) h (cell .group) .words)) ⌝ }
 {
     let count = cell.incoming * (1 << cell.group);
     let group = cell.group;
@@ -84,7 +83,11 @@ fn write_cells(
     classes: &[usize],
     firsts: &[usize],
     image: &mut [u8],
-) -> usize {
+) -> usize
+    requires { ⌜ RowsKnown n (now table) (now classes) (now firsts) × CellsPlanned n (now table) cells count (cost n (now table) (groups cells count)) ⌝ }
+    requires { ⌜ 6 + length (cellsBytes n (now table) (groups cells count)) ≤ length (now image) ⌝ }
+    ensures { λ r. ⌜ (r ≡ 6 + length (cellsBytes n (now (table .entry)) (groups cells count))) × (now (image .exit) ≡ overwritten (now (image .entry)) 6 (cellsBytes n (now (table .entry)) (groups cells count))) ⌝ }
+{
     let mut at = 6;
     let mut h = 0;
     let mut k = 0;

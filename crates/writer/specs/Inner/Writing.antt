@@ -7,17 +7,24 @@ use lib.ListN.{length, take}
 use lib.IntN.{ℤ}
 use Rattle.blocks.specs.Inner.Layout.{allNumbers, allFirsts}
 use Rattle.diagram.specs.Accepted.{Accepted}
-use Rattle.image.specs.Cells.{Cell}
-use Rattle.image.specs.Commands.{commandBytes, cellCommands}
+use Rattle.image.specs.Cells.{Word, Cell}
+use Rattle.image.specs.Commands.{commandBytes, wordCommand, cellCommands}
 use Rattle.cascade.specs.Cascade.{cellOf, cellsFrom}
-use Rattle.cascade.specs.Compile.{imageFor}
 use Rattle.cascade.specs.Groupings.{cost, isGrouping}
 use Rattle.cascade.specs.Plan.{planCell}
 use Rattle.cascade.specs.declared.Cell.{Cell as PlanCell}
 
+-- The bytes of words.
+unfoldable pub wordBytes : List Word → List ℕ
+wordBytes words = flatMap commandBytes (map wordCommand words)
+
 -- The bytes of a cell: its command and its words.
 unfoldable pub cellBytes : Cell → List ℕ
 cellBytes cell = flatMap commandBytes (cellCommands cell)
+
+-- The bytes of the cells of a list of sizes, from the top down.
+unfoldable pub cellsBytes : ℕ → List ℤ → List ℕ → List ℕ
+cellsBytes n table sizes = flatMap cellBytes (cellsFrom n table 0 sizes)
 
 -- The rows of an accepted table that its words are read from.
 pub record RowsKnown (n : ℕ) (table : List ℤ) (classRow firstRow : List ℕ) : Type 0 where

@@ -29,13 +29,13 @@ use Rattle.cascade.specs.Laws.Groupings.{grouping-length}
 -- ---- the length of an image
 
 -- A word takes 7 bytes.
-words-length : (words : List Word) → length (flatMap commandBytes (map wordCommand words)) ≡ 7 * length words
+pub words-length : (words : List Word) → length (flatMap commandBytes (map wordCommand words)) ≡ 7 * length words
 unfolding flatMap commandBytes wordCommand bigEndian signedBytes
 words-length [] = refl
 words-length (word ∷ words) = let rest = words-length words in omega arith
 
 -- A cell takes 7 bytes and those of its words.
-cell-length : (cell : Cell) → length (flatMap commandBytes (cellCommands cell)) ≡ 7 + 7 * length (cell .words)
+pub cell-length : (cell : Cell) → length (flatMap commandBytes (cellCommands cell)) ≡ 7 + 7 * length (cell .words)
 unfolding flatMap commandBytes cellCommands bigEndian
 cell-length cell = let words = words-length (cell .words) in omega arith
 
@@ -68,7 +68,7 @@ image-length n table sizes = card-length (cardFor n table sizes)
 
 module _ (n : ℕ) (table : List ℤ) (accepted : Accepted n table) where
   -- The cell from cut h to cut h + g has at most 2^(h + g) words.
-  cell-words-most : (h g : ℕ) → h + g ≤ n → length (cellOf n table h g .words) ≤ 2 ^ (h + g)
+  pub cell-words-most : (h g : ℕ) → h + g ≤ n → length (cellOf n table h g .words) ≤ 2 ^ (h + g)
   cell-words-most h g ends = rw (cell-words n table h g, pow-add 2 h g) (mul-le-mul-right (2 ^ g) (class-count-le n table h (omega arith)))
 
   -- The cells from cut h on end at different cuts, so their words are at most 2^(h + 1) + .. + 2^n.

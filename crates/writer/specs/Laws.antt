@@ -1,0 +1,7 @@
+-- Laws about the definitions of this crate, which proofs cite.
+pub mod Bytes
+pub mod Cells
+pub mod Commands
+pub mod Images
+pub mod Pieces
+pub mod Words

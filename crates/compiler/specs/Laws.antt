@@ -3,3 +3,4 @@ pub mod Compiles
 pub mod Counting
 pub mod Measuring
 pub mod Planned
+pub mod Ready

@@ -1,20 +1,16 @@
 -- From Plan's promise to the cells that are compiled, and from what is written to Compile's promise.
 use Prim.Native.Nat.{ℕ, zero, suc, _+_, _*_, _≤_, _<_}
 use mathlib.Core.Path.{_≡_, refl, sym, _∙_, ap, ap₂, subst}
-use mathlib.Core.Bool.{true}
 use mathlib.Core.List.{List, [], _∷_, map}
 use native.Mathlib.Omega.{arith}
 use lib.ListN.{length, getD, take, length-map}
 use lib.Seq.{getD-take}
 use lib.IntN.{ℤ}
-use Rattle.numbers.specs.Answers.{Answer, accepted, refused, unless, mapAnswer, andThen}
+use Rattle.numbers.specs.Answers.{Answer, accepted, refused, mapAnswer}
 use Rattle.numbers.specs.Lists.{sumOf}
-use Rattle.numbers.specs.Ranges.{isLimit, mostVariables}
-use Rattle.numbers.specs.Laws.Bools.{yes-or-no}
+use Rattle.numbers.specs.Ranges.{mostVariables}
 use Rattle.numbers.specs.Laws.Padding.{length-padded, take-padded}
 use Rattle.diagram.specs.Accepted.{Accepted}
-use Rattle.diagram.specs.Inner.Checks.{tableChecks}
-use Rattle.diagram.specs.Laws.Builds.{after-checks, passed-table}
 use Rattle.cascade.specs.Cascade.{cellOf, cellsFrom}
 use Rattle.cascade.specs.Compile.{imageFor}
 use Rattle.cascade.specs.Groupings.{chosen, cost}
@@ -30,8 +26,9 @@ use Rattle.cascade.specs.Laws.Cells.{variables-most, cell-words}
 use Rattle.cascade.specs.Laws.Lengths.{image-length}
 use Rattle.planner.specs.Laws.Plans.{groups-back}
 use Rattle.planner.specs.Laws.Pricing.{words-most}
+use Rattle.writer.specs.Inner.Writing.{groups, CellsPlanned}
 use Rattle.compiler.specs.Inner.Lengths.{plannedBytes, plannedLength, SmallCell, SmallCells}
-use Rattle.compiler.specs.Inner.Planned.{groups, PlannedAs, placed}
+use Rattle.compiler.specs.Inner.Planned.{PlannedAs, placed}
 
 -- ---- planned cells
 
@@ -76,6 +73,15 @@ module _ {n : ℕ} {table : List ℤ} {sizes : List ℕ} {cells : List Cell} {co
     few = few;
     each = λ k l. subst (λ (cell : Cell). SmallCell cell) (sym (ap (λ c. getD c k noCell) front) ∙ getD-take count cells k noCell l) (small-from n table a 0 sizes (omega (arith, grouping-sum n sizes (p .grouping))) k (let c = p .counted in omega arith));
   }
+
+-- They can be written.
+pub cells-planned : {n : ℕ} {table : List ℤ} {cells : List Cell} {count bits : ℕ} → Accepted n table → PlannedAs n table (groups cells count) cells count bits → CellsPlanned n table cells count bits
+cells-planned a p = record {
+  few = let s = small-cells a p in let f = s .few in let w = s .places in omega arith;
+  grouping = p .grouping;
+  planned = front a p;
+  total = p .total;
+}
 
 -- ---- from Plan's promise
 

@@ -2,8 +2,10 @@
 use Prim.Native.Nat.{ℕ}
 use mathlib.Core.Path.{_≡_}
 use mathlib.Core.List.{List, [], _∷_, flatMap}
+use lib.ListN.{length}
 use lib.IntN.{ℤ}
 use Rattle.cascade.specs.Plan.{plan, planAnswer, sizeArray, cellArray}
+use Rattle.cascade.specs.Compile.{compileAnswer, compileCells, compileBuffer}
 use Rattle.cascade.specs.declared.Cell.{Cell}
 use Rattle.exports.specs.Results.{resultOf, leftBehind}
 
@@ -18,3 +20,13 @@ pub record PlanGiven (n : ℕ) (table : List ℤ) (limit : ℕ) (sizes cells : L
   pub celled : cells′ ≡ leftBehind (planAnswer n table limit) (λ t. flatMap cellRow (cellArray n table (plan n table limit))) cells
   pub counted : count′ ≡ leftBehind (planAnswer n table limit) (λ t. t .cells) count
   pub summed : bits′ ≡ leftBehind (planAnswer n table limit) (λ t. t .bits) bits
+
+-- What Compile answers, and leaves in its image buffer, in its row and behind its four references.
+pub record CompileGiven (n : ℕ) (table : List ℤ) (limit : ℕ) (image cells : List ℕ) (imageLength nodes count bits : ℕ) (result : ℕ) (image′ cells′ : List ℕ) (imageLength′ nodes′ count′ bits′ : ℕ) : Type 0 where
+  pub answered : result ≡ resultOf (compileAnswer n table limit (length image))
+  pub imaged : image′ ≡ compileBuffer n table limit image
+  pub celled : cells′ ≡ leftBehind (compileAnswer n table limit (length image)) (λ r. flatMap cellRow (compileCells n table limit (length image))) cells
+  pub measured : imageLength′ ≡ leftBehind (compileAnswer n table limit (length image)) (λ r. r .imageLength) imageLength
+  pub noded : nodes′ ≡ leftBehind (compileAnswer n table limit (length image)) (λ r. r .nodes) nodes
+  pub counted : count′ ≡ leftBehind (compileAnswer n table limit (length image)) (λ r. r .totals .cells) count
+  pub summed : bits′ ≡ leftBehind (compileAnswer n table limit (length image)) (λ r. r .totals .bits) bits

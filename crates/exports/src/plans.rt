@@ -1,8 +1,9 @@
 // Plan and Compile through C.
 ghost use mathlib.Core.Path.{_≡_};
 ghost use mathlib.Core.List.{flatMap};
-ghost use Rattle.exports.specs.Plans.{cellRow, PlanGiven};
+ghost use Rattle.exports.specs.Plans.{cellRow, PlanGiven, CompileGiven};
 use cascade::Cell;
+use cascade::Outcome;
 use cascade::Verdict;
 
 // Five numbers for each cell: group, incoming count, outgoing count, weight width, bits.
@@ -53,5 +54,42 @@ pub extern "C" fn panstrait_plan(
             0
         }
         Verdict::Refused(number) => number,
+    }
+}
+
+// Compile: the image of the chosen grouping in front of the lent buffer, the numbers of its cells, its length, the node
+// count, the number of cells and their bits, or the refusal's number.
+#[no_mangle]
+pub extern "C" fn panstrait_compile(
+    n: usize,
+    table: &[i32],
+    limit: usize,
+    image: &mut [u8],
+    cells: &mut [usize; 60],
+    length: &mut usize,
+    nodes: &mut usize,
+    count: &mut usize,
+    bits: &mut usize,
+) -> u8
+    ensures { λ r. ⌜ CompileGiven n (now (table .entry)) limit (now (image .entry)) (now (cells .entry)) (now (length .entry)) (now (nodes .entry)) (now (count .entry)) (now (bits .entry)) r (now (image .exit)) (now (cells .exit)) (now (length .exit)) (now (nodes .exit)) (now (count .exit)) (now (bits .exit)) ⌝ }
+{
+    let compiled = compiler::compile(n, table, limit, image);
+    let outcome = compiled.outcome;
+    match outcome {
+        Outcome::Image {
+            length: bytes,
+            nodes: all,
+            cells: number,
+            bits: total,
+        } => {
+            let list = compiled.cells;
+            *cells = cell_rows(list);
+            *length = bytes;
+            *nodes = all;
+            *count = number;
+            *bits = total;
+            0
+        }
+        Outcome::Refused(number) => number,
     }
 }

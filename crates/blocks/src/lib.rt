@@ -5,7 +5,7 @@ ghost use lib.ListN.{length, getD, take, drop};
 ghost use lib.IntN.{pos, _-ℤ_};
 ghost use Rattle.blocks.specs.Blocks.{block, first, differences};
 ghost use Rattle.blocks.specs.Classes.{same, numberIn};
-ghost use Rattle.blocks.specs.Inner.Layout.{cutPlace, less, part, partDifferences, PartsWithin, rowsOf, BlockRoom, blockClassed, HalvesRoom, halvesClassed, CutRoom, CutClassed, CutsRoom, CutPlaced, AllClassed, countNoted, firstsNoted};
+ghost use Rattle.blocks.specs.Inner.Layout.{cutPlace, less, part, partDifferences, PartsWithin, cutRows, BlockRoom, blockClassed, HalvesRoom, halvesClassed, CutRoom, CutClassed, CutsRoom, CutPlaced, AllClassed, countNoted, firstsNoted};
 
 // A value less a constant, in a width that holds any such difference.
 fn difference(values: &[i32], x: usize, constant: i32) -> i64
@@ -119,7 +119,7 @@ fn class_block(
     firsts: &mut [usize],
 ) -> usize
     requires { ⌜ BlockRoom (now table) size j count (now classes) (now firsts) ⌝ }
-    ensures { λ r. ⌜ rowsOf r (now (classes .exit)) (now (firsts .exit)) ≡ blockClassed (now (table .entry)) size j (now (values .entry)) (rowsOf count (now (classes .entry)) (now (firsts .entry))) ⌝ }
+    ensures { λ r. ⌜ cutRows r (now (classes .exit)) (now (firsts .exit)) ≡ blockClassed (now (table .entry)) size j (now (values .entry)) (cutRows count (now (classes .entry)) (now (firsts .entry))) ⌝ }
 {
     let class = find_class(table, size, &firsts[..count], values);
     classes[j] = class;
@@ -137,7 +137,7 @@ fn class_halves(
     firsts: &mut [usize],
 ) -> usize
     requires { ⌜ HalvesRoom (now table) size j count (now classes) (now firsts) ⌝ }
-    ensures { λ r. ⌜ rowsOf r (now (classes .exit)) (now (firsts .exit)) ≡ halvesClassed (now (table .entry)) size j (now (above .entry)) (rowsOf count (now (classes .entry)) (now (firsts .entry))) ⌝ }
+    ensures { λ r. ⌜ cutRows r (now (classes .exit)) (now (firsts .exit)) ≡ halvesClassed (now (table .entry)) size j (now (above .entry)) (cutRows count (now (classes .entry)) (now (firsts .entry))) ⌝ }
 {
     let middle = above.len() / 2;
     let lower = &above[..middle];
@@ -147,7 +147,7 @@ fn class_halves(
 }
 
 // The classes of a cut below another: its blocks are the halves of the blocks of the cut above, each a part of the table.
-fn class_below(table: &[i32], size: usize, classes: &mut [usize], firsts: &mut [usize]) -> usize
+fn class_cut_below(table: &[i32], size: usize, classes: &mut [usize], firsts: &mut [usize]) -> usize
     requires { ⌜ CutRoom (now table) size (now classes) (now firsts) ⌝ }
     requires { ⌜ (length (now classes) ≡ 1 → ⊥) ⌝ }
     ensures { λ r. ⌜ CutClassed (now (table .entry)) size (length (now (classes .entry))) r (now (classes .exit)) (now (firsts .exit)) ⌝ }
@@ -172,7 +172,7 @@ fn class_cut(table: &[i32], size: usize, classes: &mut [usize], firsts: &mut [us
     if classes.len() == 1 {
         return class_block(table, size, 0, table, 0, classes, firsts);
     }
-    class_below(table, size, classes, firsts)
+    class_cut_below(table, size, classes, firsts)
 }
 
 // The classes of cut h, at their places in the rows of all cuts.

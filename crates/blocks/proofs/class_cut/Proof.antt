@@ -1,5 +1,5 @@
 -- `blocks::class_cut` meets its contract: the one block of cut 0 is the table. Assumes nothing.
-use Rattle.blocks.specs.Inner.Layout.{rowsOf}
+use Rattle.blocks.specs.Inner.Layout.{cutRows}
 use Rattle.blocks.specs.Laws.Cut.{one-block}
 use borrow.Author.Needs.{needs}
 use Rattle.blocks.proofs.class_cut.Statement.{statement}
@@ -19,10 +19,10 @@ returns c =
     let s = c .before .before .before .before .before .before .before .before .before .before in
     let k = c .before .before .before .before .class-block in
     one-block (s .args .table .now) (s .args .size) (s .args .classes .now) (s .args .firsts .now) (s .pre) (c .before .before .before .before .before .before .before .if1 .taken)
-    (rowsOf (k .result) (k .last .1 .1 .1 .1 .1 .0) (k .last .1 .1 .1 .1 .1 .1 .0)) (k .ensures)
+    (cutRows (k .result) (k .last .1 .1 .1 .1 .1 .0) (k .last .1 .1 .1 .1 .1 .1 .0)) (k .ensures)
 
-class-below-requires : tie.Need-class-below-requires
-class-below-requires c κs = search needs
+class-cut-below-requires : tie.Need-class-cut-below-requires
+class-cut-below-requires c κs = search needs
 
 same-length-3 : tie.Need-same-length-3
 same-length-3 c = search needs
@@ -41,7 +41,7 @@ class-cut-spec =
     same-length
     same-length-2
     returns
-    class-below-requires
+    class-cut-below-requires
     same-length-3
     same-length-4
     returns-2)

@@ -4,7 +4,7 @@ use mathlib.Core.Path.{sym, _∙_, ap₂}
 use native.Mathlib.Omega.{arith}
 use lib.ListN.{length, take, drop, length-drop}
 use lib.Seq.{length-take-le, take-all}
-use Rattle.blocks.specs.Inner.Layout.{rowsOf, blockClassed, halvesClassed}
+use Rattle.blocks.specs.Inner.Layout.{cutRows, blockClassed, halvesClassed}
 use Rattle.blocks.specs.Laws.Halves.{upper-room}
 use borrow.Author.Needs.{needs}
 use Rattle.blocks.proofs.class_halves.Statement.{statement}
@@ -41,8 +41,8 @@ class-block-requires-2 : tie.Need-class-block-requires-2
 class-block-requires-2 c κs =
     let s = c .before .before .before .before .before .before .before .before .before .before .before .before .before in
     let k = c .before .before .before .before .before .before .class-block in
-    upper-room (s .args .table .now) (s .args .size) (s .args .j) (rowsOf (s .args .count) (s .args .classes .now) (s .args .firsts .now)) (s .pre) (take (length (s .args .above .now) / 2) (s .args .above .now))
-    (rowsOf (k .result) (k .last .1 .1 .1 .1 .1 .0) (k .last .1 .1 .1 .1 .1 .1 .0)) (k .ensures)
+    upper-room (s .args .table .now) (s .args .size) (s .args .j) (cutRows (s .args .count) (s .args .classes .now) (s .args .firsts .now)) (s .pre) (take (length (s .args .above .now) / 2) (s .args .above .now))
+    (cutRows (k .result) (k .last .1 .1 .1 .1 .1 .0) (k .last .1 .1 .1 .1 .1 .1 .0)) (k .ensures)
 
 same-length : tie.Need-same-length
 same-length c = search needs

@@ -37,20 +37,20 @@ unfoldable pub firstsNoted : List ℕ → ℕ → ℕ → ℕ → List ℕ
 firstsNoted firstRow count j class = cond (eqb class count) (set (set firstRow j 0) count j) (set firstRow j 0)
 
 -- The rows of a cut on the way: how many classes are known, each block's class, and each class's first block.
-pub record Rows : Type 0 where
+pub record CutRows : Type 0 where
   pub known : ℕ
   pub classRow : List ℕ
   pub firstRow : List ℕ
 
-abbrev pub rowsOf : ℕ → List ℕ → List ℕ → Rows
-rowsOf count classRow firstRow = record { known = count; classRow = classRow; firstRow = firstRow }
+abbrev pub cutRows : ℕ → List ℕ → List ℕ → CutRows
+cutRows count classRow firstRow = record { known = count; classRow = classRow; firstRow = firstRow }
 
 -- The class of a block among those known.
-unfoldable pub knownClass : List ℤ → ℕ → List ℤ → Rows → ℕ
+unfoldable pub knownClass : List ℤ → ℕ → List ℤ → CutRows → ℕ
 knownClass table size values rows = numberIn (partDifferences table size (take (rows .known) (rows .firstRow))) (differences values)
 
 -- The rows with a place for block j of the cut, given by its values.
-unfoldable pub blockClassed : List ℤ → ℕ → ℕ → List ℤ → Rows → Rows
+unfoldable pub blockClassed : List ℤ → ℕ → ℕ → List ℤ → CutRows → CutRows
 blockClassed table size j values rows = record {
   known = countNoted (rows .known) (knownClass table size values rows);
   classRow = set (rows .classRow) j (knownClass table size values rows);
@@ -58,7 +58,7 @@ blockClassed table size j values rows = record {
 }
 
 -- The rows with places for both halves of block j of the cut above, given by its values: the lower half, then the upper.
-unfoldable pub halvesClassed : List ℤ → ℕ → ℕ → List ℤ → Rows → Rows
+unfoldable pub halvesClassed : List ℤ → ℕ → ℕ → List ℤ → CutRows → CutRows
 halvesClassed table size j values rows =
     blockClassed table size (2 * j + 1) (drop (length values / 2) values)
     (blockClassed table size (2 * j) (take (length values / 2) values) rows)

@@ -14,7 +14,7 @@ use Rattle.numbers.specs.Lists.{numbersFrom}
 use Rattle.numbers.specs.Laws.Lists.{length-range, getD-range, getD-map}
 use Rattle.blocks.specs.Blocks.{differences}
 use Rattle.blocks.specs.Classes.{numberIn, distinct}
-use Rattle.blocks.specs.Inner.Layout.{part, partDifferences, Rows, rowsOf, BlockRoom, knownClass, blockClassed, CutRoom, CutClassed, countNoted, firstsNoted, firstsOf}
+use Rattle.blocks.specs.Inner.Layout.{part, partDifferences, CutRows, cutRows, BlockRoom, knownClass, blockClassed, CutRoom, CutClassed, countNoted, firstsNoted, firstsOf}
 use Rattle.blocks.specs.Laws.Known.{number-at, number-by, Among, distinct-seen}
 use Rattle.blocks.specs.Laws.Searching.{length-parts, part-at}
 use Rattle.blocks.specs.Laws.Classing.{Classed, none-classed, before-length, classed-next, known-places, all-classed}
@@ -32,7 +32,7 @@ cut-list-at table size count j h =
     ∙ ap (λ k. differences (part table size k)) (getD-range 0 count j 0 h ∙ zero-add j)
 
 -- The rows while j blocks are classed.
-pub record CutSoFar (table : List ℤ) (size count j : ℕ) (rows : Rows) : Type 0 where
+pub record CutSoFar (table : List ℤ) (size count j : ℕ) (rows : CutRows) : Type 0 where
   pub inside : j ≤ count
   pub classPlaces : length (rows .classRow) ≡ count
   pub firstPlaces : length (rows .firstRow) ≡ count
@@ -46,11 +46,11 @@ length-noted firstRow known j class =
     (λ e. rw e (simp length-set))
 
 -- No block is classed yet.
-pub cut-start : (table : List ℤ) (size : ℕ) (classRow firstRow : List ℕ) → CutRoom table size classRow firstRow → CutSoFar table size (length classRow) 0 (rowsOf 0 classRow firstRow)
+pub cut-start : (table : List ℤ) (size : ℕ) (classRow firstRow : List ℕ) → CutRoom table size classRow firstRow → CutSoFar table size (length classRow) 0 (cutRows 0 classRow firstRow)
 cut-start table size classRow firstRow room =
     record { inside = omega arith; classPlaces = refl; firstPlaces = room .alike; classed = none-classed (cutLists table size (length classRow)) classRow firstRow }
 
-module _ {table : List ℤ} {size count j : ℕ} {rows : Rows} (s : CutSoFar table size count j rows) (below : j < count) where
+module _ {table : List ℤ} {size count j : ℕ} {rows : CutRows} (s : CutSoFar table size count j rows) (below : j < count) where
   abbrev ds : List (List ℤ)
   ds = cutLists table size count
 
@@ -128,7 +128,7 @@ module _ {table : List ℤ} {size count j : ℕ} {rows : Rows} (s : CutSoFar tab
             (rw (s .classPlaces) below) (rw (s .firstPlaces) below));
       }
 
-pub cut-done : (table : List ℤ) (size count : ℕ) (rows : Rows) → CutSoFar table size count count rows → CutClassed table size count (rows .known) (rows .classRow) (rows .firstRow)
+pub cut-done : (table : List ℤ) (size count : ℕ) (rows : CutRows) → CutSoFar table size count count rows → CutClassed table size count (rows .known) (rows .classRow) (rows .firstRow)
 cut-done table size count rows s =
     let ds = cutLists table size count in
     let l = length-cut-lists table size count in
@@ -136,12 +136,12 @@ cut-done table size count rows s =
     record { counted = a .0; numbered = a .1 .0; placed = a .1 .1 ∙ ap (λ n. firstsOf n ds) l }
 
 -- A cut of one block, the table.
-pub one-block : (table : List ℤ) (size : ℕ) (classRow firstRow : List ℕ) → CutRoom table size classRow firstRow → length classRow ≡ 1 → (rows : Rows) → rows ≡ blockClassed table size 0 table (rowsOf 0 classRow firstRow) → CutClassed table size (length classRow) (rows .known) (rows .classRow) (rows .firstRow)
+pub one-block : (table : List ℤ) (size : ℕ) (classRow firstRow : List ℕ) → CutRoom table size classRow firstRow → length classRow ≡ 1 → (rows : CutRows) → rows ≡ blockClassed table size 0 table (cutRows 0 classRow firstRow) → CutClassed table size (length classRow) (rows .known) (rows .classRow) (rows .firstRow)
 unfolding part
 one-block table size classRow firstRow room one rows is =
     cut-done table size (length classRow) rows
     (subst (λ r. CutSoFar table size (length classRow) (length classRow) r) (sym is)
-    (subst (λ k. CutSoFar table size (length classRow) k (blockClassed table size 0 table (rowsOf 0 classRow firstRow))) (sym one)
+    (subst (λ k. CutSoFar table size (length classRow) k (blockClassed table size 0 table (cutRows 0 classRow firstRow))) (sym one)
     (cut-next (cut-start table size classRow firstRow room) (omega arith) table whole)))
   where
     whole : table ≡ take size (drop (0 * size) table)

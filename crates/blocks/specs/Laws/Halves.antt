@@ -12,7 +12,7 @@ use lib.Dec.{eqb}
 use lib.IntN.{ℤ}
 use Rattle.numbers.specs.Laws.Bools.{yes-or-no}
 use Rattle.numbers.specs.Laws.Lists.{drop-take}
-use Rattle.blocks.specs.Inner.Layout.{part, PartsWithin, countNoted, firstsNoted, Rows, knownClass, blockClassed, halvesClassed, BlockRoom, HalvesRoom}
+use Rattle.blocks.specs.Inner.Layout.{part, PartsWithin, countNoted, firstsNoted, CutRows, knownClass, blockClassed, halvesClassed, BlockRoom, HalvesRoom}
 use Rattle.blocks.specs.Laws.Cut.{CutSoFar, length-noted, cut-block-room, cut-next}
 
 -- ---- the halves are blocks of the cut
@@ -60,7 +60,7 @@ parts-noted table size firstRow known j class p few below room =
 
 -- ---- one block of the cut above
 
-length-classed : (table : List ℤ) (size j : ℕ) (values : List ℤ) (rows : Rows) → length (blockClassed table size j values rows .classRow) ≡ length (rows .classRow)
+length-classed : (table : List ℤ) (size j : ℕ) (values : List ℤ) (rows : CutRows) → length (blockClassed table size j values rows .classRow) ≡ length (rows .classRow)
 unfolding blockClassed
 length-classed table size j values rows = length-set (rows .classRow) j (knownClass table size values rows)
 
@@ -69,10 +69,10 @@ unfolding countNoted
 noted-le known class = yes-or-no (eqb class known) (λ e. rw e (omega arith)) (λ e. rw e (omega arith))
 
 -- Once the lower half is classed, the upper half has its place.
-pub upper-room : (table : List ℤ) (size j : ℕ) (rows : Rows) → HalvesRoom table size j (rows .known) (rows .classRow) (rows .firstRow) → (values : List ℤ) (next : Rows) → next ≡ blockClassed table size (2 * j) values rows → BlockRoom table size (2 * j + 1) (next .known) (next .classRow) (next .firstRow)
+pub upper-room : (table : List ℤ) (size j : ℕ) (rows : CutRows) → HalvesRoom table size j (rows .known) (rows .classRow) (rows .firstRow) → (values : List ℤ) (next : CutRows) → next ≡ blockClassed table size (2 * j) values rows → BlockRoom table size (2 * j + 1) (next .known) (next .classRow) (next .firstRow)
 unfolding blockClassed
 upper-room table size j rows h values next is =
-    subst (λ (r : Rows). BlockRoom table size (2 * j + 1) (r .known) (r .classRow) (r .firstRow)) (sym is)
+    subst (λ (r : CutRows). BlockRoom table size (2 * j + 1) (r .known) (r .classRow) (r .firstRow)) (sym is)
     (record {
       known = parts-noted table size (rows .firstRow) (rows .known) (2 * j) class (h .lower .known) (h .lower .few) (let u = h .upper in let a = h .lower .alike in omega arith) room;
       few = let f = h .lower .few in let n = noted-le (rows .known) class in omega arith;
@@ -86,7 +86,7 @@ upper-room table size j rows h values next is =
     room : 2 * j * size + size ≤ length table
     room = let m = mul-le-mul-right size (h .lower .inside) in let w = h .whole in omega (arith, suc-mul (2 * j) size)
 
-module _ {table : List ℤ} {size count : ℕ} (j : ℕ) {rows : Rows} (s : CutSoFar table size count (2 * j) rows) (whole : length table ≡ count * size) (below : 2 * j + 1 < count) where
+module _ {table : List ℤ} {size count : ℕ} (j : ℕ) {rows : CutRows} (s : CutSoFar table size count (2 * j) rows) (whole : length table ≡ count * size) (below : 2 * j + 1 < count) where
   -- Both halves have their places.
   pub cut-halves-room : HalvesRoom table size j (rows .known) (rows .classRow) (rows .firstRow)
   cut-halves-room = record {
@@ -101,7 +101,7 @@ module _ {table : List ℤ} {size count : ℕ} (j : ℕ) {rows : Rows} (s : CutS
       omega (arith, suc-mul (2 * j + 1) size, suc-mul (2 * j) size)
 
   -- Two blocks more.
-  pub halves-next : (next : Rows) → next ≡ halvesClassed table size j (above table size j above-inside) rows → CutSoFar table size count (2 * (j + 1)) next
+  pub halves-next : (next : CutRows) → next ≡ halvesClassed table size j (above table size j above-inside) rows → CutSoFar table size count (2 * (j + 1)) next
   unfolding halvesClassed
   halves-next next is =
       subst (λ r. CutSoFar table size count (2 * (j + 1)) r) (sym is)

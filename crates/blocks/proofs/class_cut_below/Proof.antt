@@ -1,18 +1,18 @@
--- `blocks::class_below` meets its contract. The loop's invariant: the rows hold what is known after the halves of j blocks of the cut
+-- `blocks::class_cut_below` meets its contract. The loop's invariant: the rows hold what is known after the halves of j blocks of the cut
 -- above. Assumes nothing.
 use Prim.Native.Nat.{_+_, _-_, _*_, _/_, _≤_, _<_}
 use mathlib.Core.Path.{_≡_, sym, _∙_, subst}
 use native.Mathlib.Omega.{arith}
 use lib.ListN.{length}
 use borrow.Author.Needs.{needs}
-use Rattle.blocks.specs.Inner.Layout.{rowsOf}
+use Rattle.blocks.specs.Inner.Layout.{cutRows}
 use Rattle.blocks.specs.Laws.Cut.{CutSoFar, cut-start, cut-done}
 use Rattle.blocks.specs.Laws.Halves.{above-inside, cut-halves-room, halves-next}
-use Rattle.blocks.proofs.class_below.Statement.{statement}
-use Rattle.blocks.proofs.class_below.Tie as tie
+use Rattle.blocks.proofs.class_cut_below.Statement.{statement}
+use Rattle.blocks.proofs.class_cut_below.Tie as tie
 
 abbrev Inv-loop : tie.InvT-loop
-Inv-loop table size classes₀ firsts₀ count₀ j₀ classes firsts count j = CutSoFar table size (length classes₀) (2 * j) (rowsOf count classes firsts)
+Inv-loop table size classes₀ firsts₀ count₀ j₀ classes firsts count j = CutSoFar table size (length classes₀) (2 * j) (cutRows count classes firsts)
 
 abbrev μ-loop : tie.MeasureT-loop
 μ-loop table size classes₀ firsts₀ count₀ j₀ classes firsts count j = length classes₀ / 2 - j
@@ -74,7 +74,7 @@ loop-again : tie.Need-loop-again Inv-loop μ-loop
 loop-again c =
     let i = c .before .before .before .before .before .before .before .before in
     let k = c .before .before .before .before .class-halves in
-    halves-next (here i .loop .j) (here i .loop .inv) (start i .pre .0 .whole) (below i) (rowsOf (k .result) (k .last .1 .1 .1 .1 .1 .0) (k .last .1 .1 .1 .1 .1 .1 .0)) (k .ensures)
+    halves-next (here i .loop .j) (here i .loop .inv) (start i .pre .0 .whole) (below i) (cutRows (k .result) (k .last .1 .1 .1 .1 .1 .0) (k .last .1 .1 .1 .1 .1 .1 .0)) (k .ensures)
 
 same-length : tie.Need-same-length Inv-loop μ-loop
 same-length c = c .before .loop .inv .classPlaces
@@ -86,8 +86,8 @@ returns : tie.Need-returns Inv-loop μ-loop
 returns c =
     let s = c .before .before .before .before in
     let v = c .before .loop in
-    cut-done (s .args .table .now) (s .args .size) (length (s .args .classes .now)) (rowsOf (v .count) (v .classes) (v .firsts))
-    (subst (λ k. CutSoFar (s .args .table .now) (s .args .size) (length (s .args .classes .now)) k (rowsOf (v .count) (v .classes) (v .firsts)))
+    cut-done (s .args .table .now) (s .args .size) (length (s .args .classes .now)) (cutRows (v .count) (v .classes) (v .firsts))
+    (subst (λ k. CutSoFar (s .args .table .now) (s .args .size) (length (s .args .classes .now)) k (cutRows (v .count) (v .classes) (v .firsts)))
     (let t = c .loop-test .left in
     let l = v .inv .inside in
     let r = v .inv .classPlaces in
@@ -96,8 +96,8 @@ returns c =
     e)
     (v .inv))
 
-pub class-below-spec : {M : Type 1} → statement M
-class-below-spec =
+pub class-cut-below-spec : {M : Type 1} → statement M
+class-cut-below-spec =
     tie.close
     (tie.spec
     Inv-loop

@@ -1,2 +1,5 @@
 -- What the table compiler as a whole is trusted for, and the paper's checked values.
 pub mod CheckedList
+pub mod Checks
+pub mod Admitted
+pub mod Laws

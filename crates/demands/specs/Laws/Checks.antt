@@ -110,7 +110,7 @@ decided-map f (refused j) d = record {
   );
 }
 
--- One condition for a whole answer.
+-- One condition for a whole answer, with the numbers of its refusals.
 pub decided-check : {A : Type 0} {holds : Type 0} {gives : ℕ → Type 0} (answer : Answer A) → holds ↔ ((a : A) × (answer ≡ accepted a)) → ((k : ℕ) → gives k ↔ (answer ≡ refused k)) → Decided answer (record { holds = holds; gives = gives } ∷ [])
 unfolding AllHold FirstFails
 decided-check answer a r = record {
@@ -118,5 +118,23 @@ decided-check answer a r = record {
   refuses = λ k. (
       (λ h. elim h [ inl f ↦ r k .0 (f .1) | inr l ↦ absurd (l .1) ]),
       (λ e. inl ((λ h. let s = a .0 h in one-answer (s .0) k (s .1) e), r k .1 e)),
+  );
+}
+
+-- One condition for a whole answer whose refusals all have one number.
+pub decided-otherwise : {A : Type 0} {holds : Type 0} {number : ℕ} (answer : Answer A) → holds ↔ ((a : A) × (answer ≡ accepted a)) → ((k : ℕ) → answer ≡ refused k → k ≡ number) → Decided answer ((holds otherwise number) ∷ [])
+unfolding AllHold FirstFails
+decided-otherwise (accepted a) h r = record {
+  accepts = ((λ all. h .0 (all .0)), (λ s. (h .1 s, tt)));
+  refuses = λ k. (
+      (λ f. elim f [ inl g ↦ absurd (g .0 (h .1 (a, refl))) | inr l ↦ absurd (l .1) ]),
+      (λ e. not-refused a k e),
+  );
+}
+decided-otherwise (refused j) h r = record {
+  accepts = ((λ all. h .0 (all .0)), (λ s. (h .1 s, tt)));
+  refuses = λ k. (
+      (λ f. elim f [ inl g ↦ ap refused (r j refl ∙ sym (g .1)) | inr l ↦ absurd (l .1) ]),
+      (λ e. inl ((λ p. let s = h .0 p in not-refused (s .0) j (sym (s .1))), r k e)),
   );
 }

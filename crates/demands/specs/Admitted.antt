@@ -6,11 +6,19 @@ use lib.ListN.{length, getD, take}
 use lib.IntN.{ℤ, pos, negℤ, natAbs}
 use lib.Signed.{_≤ℤ_, _<ℤ_}
 use Rattle.numbers.specs.Lists.{sumOf}
+use Rattle.numbers.specs.Widths.{weightWidth}
 use Rattle.blocks.specs.Classes.{railAt}
 use Rattle.diagram.specs.Walk.{variableAt, lowAt, highAt, weightAt}
+use Rattle.image.specs.Cells.{Card}
+use Rattle.image.specs.Commands.{imageOf}
+use Rattle.image.specs.Reader.{end, due, dueByte, dueSize, commandAt, placeAfter, start}
+use Rattle.image.specs.WellFormed.{KeepsShape, KeepsWord, WellFormed}
+use Rattle.image.specs.declared.Command.{Command}
+use Rattle.image.specs.declared.Command.the-variants.{Table, Cell, Word, End}
+use Rattle.image.specs.declared.Place.{Place}
 use Rattle.cascade.specs.Compile.{imageFor}
 use Rattle.cascade.specs.Groupings.{BestGrouping}
-use Rattle.demands.specs.Checks.{Check, _otherwise_}
+use Rattle.demands.specs.Checks.{Check, _otherwise_, AllHold, FirstFails}
 
 -- ---- ranges
 
@@ -90,3 +98,53 @@ planChecks n table limit =
 unfoldable pub compileChecks : ℕ → List ℤ → ℕ → ℕ → List Check
 compileChecks n table limit room =
     planChecks n table limit ++ ((best : List ℕ) → BestGrouping n table limit best → length (imageFor n table best) ≤ room) otherwise 10 ∷ []
+
+-- ---- Run and Expand
+
+-- The operand rules of a command at a place.
+unfoldable pub OperandRules : Place → Command → Type 0
+OperandRules p (Table n offset) = Variables n × TableValue offset
+OperandRules p (Cell group incoming outgoing width) = KeepsShape (p .left) (p .classes) group incoming outgoing
+OperandRules p (Word class weight) = KeepsWord (p .classes) (p .words % 2 ^ p .group) (record { class = class; weight = weight })
+OperandRules p (End bits) = bits ≡ p .bits
+
+-- The command at a place, with its operands.
+unfoldable pub commandHere : List ℕ → Place → Command
+commandHere image p = commandAt (due p) image (p .at)
+
+-- At each place: a width that is not least is 13, before the next command byte is read; no byte there is 11; a command byte not allowed there
+-- is 12; operands cut off is 11; an operand rule broken is 13; bytes after 0x45 are 14.
+unfoldable pub placeChecks : List ℕ → Place → List Check
+placeChecks image p =
+    (p .words ≡ 0 → p .width ≡ weightWidth (p .least ∷ p .greatest ∷ [])) otherwise 13
+    ∷ (p .at < length image) otherwise 11
+    ∷ (getD image (p .at) 0 ≡ dueByte (due p)) otherwise 12
+    ∷ (p .at + dueSize (due p) ≤ length image) otherwise 11
+    ∷ OperandRules p (commandHere image p) otherwise 13
+    ∷ (due p ≡ end → length image ≡ p .at + 5) otherwise 14
+    ∷ []
+
+-- The places that checking from the left comes to: the start, and after each command but 0x45 that keeps to its checks the place behind it.
+pub data Reached (image : List ℕ) : Place → Type 0 where
+  first : Reached image start
+  next : (p : Place) → Reached image p → AllHold (placeChecks image p) → ¬ (due p ≡ end) → Reached image (placeAfter p (commandHere image p))
+
+-- Checking from the left finds a fault of this number: that of the first check which fails at a place that is reached.
+unfoldable pub ImageFault : List ℕ → ℕ → Type 0
+ImageFault image k = (p : Place) × (Reached image p × FirstFails (placeChecks image p) k)
+
+-- The image is that of a card which keeps every rule.
+unfoldable pub ImageOf : List ℕ → Card → Type 0
+ImageOf image card = WellFormed card × (image ≡ imageOf card)
+
+-- The image is that of some card; else checking it finds the number.
+unfoldable pub imageCheck : List ℕ → Check
+imageCheck image = record { holds = (card : Card) × ImageOf image card; gives = ImageFault image }
+
+-- Run: the image, then X not below 2^n is 7.
+unfoldable pub runChecks : List ℕ → ℕ → List Check
+runChecks image x = imageCheck image ∷ ((card : Card) → ImageOf image card → x < 2 ^ card .n) otherwise 7 ∷ []
+
+-- Expand: the image, then table buffer length not 2^n is 2.
+unfoldable pub expandChecks : List ℕ → ℕ → List Check
+expandChecks image room = imageCheck image ∷ ((card : Card) → ImageOf image card → room ≡ 2 ^ card .n) otherwise 2 ∷ []

@@ -2,4 +2,5 @@
 pub mod CheckedList
 pub mod Checks
 pub mod Admitted
+pub mod Demands
 pub mod Laws

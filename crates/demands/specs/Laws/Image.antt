@@ -1,15 +1,13 @@
 -- Reading an image, Run and Expand go by the paper's checks.
-use Prim.Native.Nat.{ℕ, zero, suc, _+_, _%_, _^_, _≤_, _<_}
+use Prim.Native.Nat.{ℕ, zero, suc, _+_, _^_, _≤_, _<_}
 use mathlib.Core.Path.{_≡_, refl, sym, _∙_, ap, subst}
-use mathlib.Core.Logic.{_↔_, Iff·trans}
-use mathlib.Core.Bool.{Bool, true, false, true≢false, false≢true, _&&_, _||_}
-use mathlib.Core.List.{List, [], _∷_, _++_}
+use mathlib.Core.Logic.{_↔_}
+use mathlib.Core.Bool.{Bool, true, false, true≢false, false≢true}
+use mathlib.Core.List.{List, [], _∷_}
 use native.Mathlib.Omega.{arith}
 use lib.ListN.{length, getD}
-use lib.IntN.{ℤ}
 use lib.Dec.{leb, ltb, eqb}
-use borrow.Author.Tests.{lt-ltb, ltb-true, ltb-false}
-use Rattle.numbers.specs.Answers.{Answer, accepted, refused, unless, andThen}
+use Rattle.numbers.specs.Answers.{Answer, accepted, refused, andThen}
 use Rattle.numbers.specs.Ranges.{isVariables, isValue}
 use Rattle.numbers.specs.Widths.{weightWidth}
 use Rattle.numbers.specs.Laws.Answers.{not-refused, map-refused}
@@ -19,8 +17,7 @@ use Rattle.image.specs.Cells.{Card}
 use Rattle.image.specs.Commands.{cardOf, cardCommands, imageOf}
 use Rattle.image.specs.Reader.{Due, table, cell, word, end, due, dueByte, dueSize, commandAt, keepsRules, placeAfter, widthIsLeast, endsWell, judged, step, followedBy, readFrom, start, reading}
 use Rattle.image.specs.Run.{run, runCard, expand, cardValues}
-use Rattle.image.specs.Theorems.{accepted-card, accepted-image, card-image, card-described}
-use Rattle.image.specs.WellFormed.{KeepsShape, KeepsWord, WellFormed}
+use Rattle.image.specs.Theorems.{accepted-card, accepted-image, card-image, card-described, card-run, card-expand}
 use Rattle.image.specs.Inner.Kinds.{isEnd}
 use Rattle.image.specs.Laws.Reading.{followed-on, followed-last, step-moves, Checking, checking-start, checking-refused, checking-on}
 use Rattle.image.specs.Laws.Rules.{shape-test, shape-facts, word-test, word-facts}
@@ -29,7 +26,7 @@ use Rattle.image.specs.Laws.Steps.{step-accepted}
 use Rattle.image.specs.declared.Command.{Command}
 use Rattle.image.specs.declared.Command.the-variants.{Table, Cell, Word, End}
 use Rattle.image.specs.declared.Place.{Place}
-use Rattle.demands.specs.Checks.{AllHold, FirstFails, Decided}
+use Rattle.demands.specs.Checks.{Decided}
 use Rattle.demands.specs.Admitted.{OperandRules, commandHere, placeChecks, Reached, first, next, ImageFault, ImageOf, imageCheck, runChecks, expandChecks}
 use Rattle.demands.specs.Laws.Checks.{decided-accepted, decided-unless, decided-then, decided-check}
 use Rattle.demands.specs.Laws.Tests.{le-test, lt-test, eq-test, and-test, or-test, variables-test, value-test}
@@ -193,3 +190,14 @@ module _ (image : List ℕ) where
       (λ commands h.
       decided-unless (eqb room (2 ^ cardOf commands .n)) (variables-of-card bytes (λ n. eqb room (2 ^ n)) (λ n. eq-test room (2 ^ n)) commands h)
       (decided-accepted (cardValues (cardOf commands))))
+
+  -- ---- what is answered
+
+  module _ (card : Card) (is : ImageOf image card) where
+    pub run-value : (x : ℕ) → x < 2 ^ card .n → run image x ≡ accepted (runCard card x)
+    unfolding ImageOf
+    run-value x l = ap (λ i. run i x) (is .1) ∙ card-run card (is .0) x l
+
+    pub expand-value : (room : ℕ) → room ≡ 2 ^ card .n → expand image room ≡ accepted (cardValues card)
+    unfolding ImageOf
+    expand-value room e = ap (λ i. expand i room) (is .1) ∙ ap (expand (imageOf card)) e ∙ card-expand card (is .0)

@@ -1,6 +1,6 @@
 -- Each test of the definitions passes exactly where the paper's condition holds.
 use Prim.Native.Nat.{ℕ, _+_, _-_, _≤_, _<_}
-use mathlib.Core.Path.{_≡_, refl, sym, _∙_, ap, subst}
+use mathlib.Core.Path.{_≡_, refl, sym, _∙_, subst}
 use mathlib.Core.Logic.{_↔_}
 use mathlib.Core.Bool.{Bool, true, false, false≢true, _&&_, _||_}
 use mathlib.Core.List.{List}
@@ -79,11 +79,11 @@ every-from-one {P} test count t =
     let all = every-test {P = P} test (numbersFrom 1 count) 0 t in
     let long : length (numbersFrom 1 count) ≡ count = length-range 1 count in (
       (λ h k low high.
-      let same : 1 + (k - 1) ≡ k = omega arith in
-      subst P (getD-range 1 count (k - 1) 0 (omega arith) ∙ same) (all .0 h (k - 1) (rw long (omega arith)))),
+          let same : 1 + (k - 1) ≡ k = omega arith in
+          subst P (getD-range 1 count (k - 1) 0 (omega arith) ∙ same) (all .0 h (k - 1) (rw long (omega arith)))),
       (λ h. all .1 (λ x r.
-      let inside : x < count = rw long at r in
-      subst P (sym (getD-range 1 count x 0 inside)) (h (1 + x) (omega arith) (omega arith)))),
+          let inside : x < count = rw long at r in
+          subst P (sym (getD-range 1 count x 0 inside)) (h (1 + x) (omega arith) (omega arith)))),
     )
 
 -- The second test, where the first fails.

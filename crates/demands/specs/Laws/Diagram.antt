@@ -1,0 +1,111 @@
+-- Build and Walk go by the paper's checks.
+use Prim.Native.Nat.{ℕ, _-_, _*_, _/_, _%_, _^_}
+use mathlib.Core.Path.{_≡_, _∙_, ap}
+use mathlib.Core.Logic.{_↔_}
+use mathlib.Core.Bool.{true, _&&_, _||_}
+use mathlib.Core.List.{List, _++_}
+use lib.ListN.{length, drop}
+use lib.IntN.{ℤ, pos, negℤ, natAbs}
+use lib.Dec.{leb, ltb, eqb}
+use lib.Signed.{ltZ}
+use Rattle.numbers.specs.Answers.{Answer, accepted}
+use Rattle.numbers.specs.Lists.{every, numbersFrom}
+use Rattle.numbers.specs.Ranges.{isVariables, isValue, isWeight, within, eqZ}
+use Rattle.diagram.specs.Accepted.{written}
+use Rattle.diagram.specs.Records.{recordSize, records}
+use Rattle.diagram.specs.Build.{ofTable, nodeRoom, build, buildAnswer, buildBuffer, summaryOf}
+use Rattle.diagram.specs.Theorems.{build-answers, build-leaves}
+use Rattle.diagram.specs.Laws.Builds.{summary-length}
+use Rattle.diagram.specs.Walk.{variableAt, lowAt, highAt, weightAt, childFits, recordFits, recordCount, listFits, walk, walkValue}
+use Rattle.demands.specs.Checks.{Check, AllHold, Decided}
+use Rattle.demands.specs.Admitted.{tableChecks, buildChecks, ListedChild, ListedRecord, RecordList, walkChecks}
+use Rattle.demands.specs.Laws.Checks.{decided-accepted, decided-unless, decided-map, answers-value, unless-only, accepted-only}
+use Rattle.demands.specs.Laws.Tests.{le-test, lt-test, eq-test, less-test, same-test, and-test, or-test, between-test, variables-test, value-test, every-test, every-from-one}
+
+-- The checks on a table, and what follows them.
+pub decided-table : {A : Type 0} (n : ℕ) (table : List ℤ) {rest : Answer A} {checks : List Check} → Decided rest checks → Decided (ofTable n table rest) (tableChecks n table ++ checks)
+unfolding ofTable tableChecks
+decided-table n table d =
+    decided-unless (isVariables n) (variables-test n)
+    (decided-unless (eqb (length table) (2 ^ n)) (eq-test (length table) (2 ^ n))
+    (decided-unless (every isValue table) (every-test isValue table (pos 0) value-test)
+    d))
+
+pub decided-build : (n : ℕ) (table : List ℤ) (room : ℕ) → Decided (buildAnswer n table room) (buildChecks n table room)
+unfolding buildAnswer build buildChecks nodeRoom recordSize
+decided-build n table room =
+    decided-map (λ rs. summaryOf n table) (build n table room)
+    (decided-table n table (decided-unless (leb (4 * (2 ^ n - 1)) room) (le-test (4 * (2 ^ n - 1)) room) (decided-accepted (records n table))))
+
+-- ---- a record list
+
+child-test : (list : List ℤ) (k : ℕ) (child : ℤ) → (childFits list k child ≡ true) ↔ ListedChild list k child
+unfolding childFits
+child-test list k child =
+    let range = within (pos 0) (pos (k - 1)) child in
+    let is-zero = eqZ child (pos 0) in
+    let below = ltZ (variableAt list (natAbs child)) (variableAt list k) in
+    let i = and-test range (is-zero || below) (between-test (pos 0) (pos (k - 1)) child) (or-test is-zero below (same-test child (pos 0)) (less-test (variableAt list (natAbs child)) (variableAt list k))) in (
+      (λ h. let r = i .0 h in record { earlier = r .0; lower = r .1 }),
+      (λ r. i .1 (r .earlier, r .lower)),
+    )
+
+record-test : (n : ℕ) (list : List ℤ) (k : ℕ) → (recordFits n list k ≡ true) ↔ ListedRecord n list k
+unfolding recordFits isWeight
+record-test n list k =
+    let variable = within (pos 0) (pos (n - 1)) (variableAt list k) in
+    let low = childFits list k (lowAt list k) in
+    let high = childFits list k (highAt list k) in
+    let weight = isWeight (weightAt list k) in
+    let i =
+    and-test (variable && low && high) weight
+    (and-test (variable && low) high
+    (and-test variable low (between-test (pos 0) (pos (n - 1)) (variableAt list k)) (child-test list k (lowAt list k)))
+    (child-test list k (highAt list k)))
+    (between-test (negℤ (pos 16777215)) (pos 16777215) (weightAt list k))
+    in (
+      (λ h. let r = i .0 h in record { variable = r .0 .0 .0; low = r .0 .0 .1; high = r .0 .1; weight = r .1 }),
+      (λ r. i .1 (((r .variable, r .low), r .high), r .weight)),
+    )
+
+list-test : (n : ℕ) (list : List ℤ) → (listFits n list ≡ true) ↔ RecordList n list
+unfolding listFits nodeRoom recordSize recordCount
+list-test n list =
+    let whole = eqb (length list % 4) 0 in
+    let most = leb (length list) (4 * (2 ^ n - 1)) in
+    let each = every (recordFits n list) (numbersFrom 1 (length list / 4)) in
+    let i =
+    and-test (whole && most) each
+    (and-test whole most (eq-test (length list % 4) 0) (le-test (length list) (4 * (2 ^ n - 1))))
+    (every-from-one (recordFits n list) (length list / 4) (record-test n list))
+    in (
+      (λ h. let r = i .0 h in record { whole = r .0 .0; most = r .0 .1; records = r .1 }),
+      (λ r. i .1 ((r .whole, r .most), r .records)),
+    )
+
+pub decided-walk : (n : ℕ) (offset : ℤ) (list : List ℤ) (x : ℕ) → Decided (walk n offset list x) (walkChecks n offset list x)
+unfolding walk walkChecks
+decided-walk n offset list x =
+    decided-unless (isVariables n) (variables-test n)
+    (decided-unless (isValue offset) (value-test offset)
+    (decided-unless (listFits n list) (list-test n list)
+    (decided-unless (ltb x (2 ^ n)) (lt-test x (2 ^ n))
+    (decided-accepted (walkValue n offset list x)))))
+
+-- ---- what is answered
+
+pub build-value : (n : ℕ) (table : List ℤ) (room : ℕ) → AllHold (buildChecks n table room) → buildAnswer n table room ≡ accepted (summaryOf n table)
+build-value n table room = answers-value (decided-build n table room) (summaryOf n table) (build-answers n table room)
+
+-- The records stand in front, and nothing behind them is changed.
+pub build-buffer : (n : ℕ) (table buffer : List ℤ) → AllHold (buildChecks n table (length buffer)) → buildBuffer n table buffer ≡ written n table ++ drop (length (written n table)) buffer
+build-buffer n table buffer h =
+    let e = build-value n table (length buffer) h in
+    build-leaves n table buffer (summaryOf n table) e
+    ∙ ap (λ count. written n table ++ drop count buffer) (summary-length n table buffer (summaryOf n table) e)
+
+pub walk-answered : (n : ℕ) (offset : ℤ) (list : List ℤ) (x : ℕ) → AllHold (walkChecks n offset list x) → walk n offset list x ≡ accepted (walkValue n offset list x)
+unfolding walk
+walk-answered n offset list x =
+    answers-value (decided-walk n offset list x) (walkValue n offset list x)
+    (unless-only (isVariables n) 1 (unless-only (isValue offset) 5 (unless-only (listFits n list) 6 (unless-only (ltb x (2 ^ n)) 7 (accepted-only (walkValue n offset list x))))))

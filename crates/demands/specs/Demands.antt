@@ -1,10 +1,12 @@
 -- What the table compiler as a whole is trusted for: the demands, sentence by sentence, over the definitions that the contracts name.
 use Prim.Native.Nat.{ℕ, _^_, _<_, suc, _+_, _-_, _%_, _≤_}
-use mathlib.Core.Path.{_≡_, refl, sym, _∙_, ap}
+use mathlib.Core.Path.{_≡_, sym, _∙_, ap}
+use mathlib.Core.Logic.{_↔_}
+use mathlib.Core.Bool.{true}
 use mathlib.Core.List.{List, _++_, map, [], _∷_, flatMap}
 use lib.ListN.{length, drop, replicate, getD}
 use lib.IntN.{ℤ, pos, negℤ, _+ℤ_, _-ℤ_, _*ℤ_}
-use Rattle.numbers.specs.Answers.{accepted, refused}
+use Rattle.numbers.specs.Answers.{Answer, accepted, refused}
 use Rattle.numbers.specs.Lists.{padded}
 use Rattle.diagram.specs.Accepted.{written, Accepted, nodeFunction}
 use Rattle.diagram.specs.Build.{buildAnswer, buildBuffer, summaryOf, Summary, recordPart}
@@ -16,15 +18,14 @@ use Rattle.image.specs.Run.{run, runCard, expand, expandBuffer, cardValues}
 use Rattle.image.specs.Theorems as images
 use Rattle.cascade.specs.Cascade.{cellsFrom}
 use Rattle.cascade.specs.Compile.{imageFor, report, compileAnswer, compileCells, compileBuffer, Report, compiledImage}
-use Rattle.cascade.specs.Groupings.{BestGrouping, cost, fits, chosen, isGrouping}
+use Rattle.cascade.specs.Groupings.{BestGrouping, isGrouping, fits, cost}
 use Rattle.cascade.specs.Plan.{plan, planCell, noCell, sizeArray, cellArray, totals, planAnswer}
-use Rattle.demands.specs.Checks.{AllHold, Decided}
+use Rattle.demands.specs.Checks.{Check, AllHold, FirstFails, Decided}
 use Rattle.demands.specs.Admitted.{buildChecks, walkChecks, FittingGrouping, planChecks, compileChecks, ImageOf, runChecks, expandChecks}
-use Rattle.demands.specs.Laws.Diagram.{decided-build, decided-walk, build-value, build-buffer, walk-answered}
-use Rattle.demands.specs.Laws.Cascade.{decided-plan, decided-compile, best-exists, one-best, plan-value, plan-arrays, plan-arrays-refused, compile-value, compile-cells, compile-cells-refused, compile-buffer, compile-kept}
+use Rattle.demands.specs.Laws.Checks.{not-all-hold, one-failure}
+use Rattle.demands.specs.Laws.Diagram.{decided-build, decided-walk, build-value, build-buffer, walk-value}
+use Rattle.demands.specs.Laws.Cascade.{fitting-tests, decided-plan, decided-compile, best-exists, one-best, plan-value, plan-arrays, plan-arrays-refused, compile-value, compile-cells, compile-cells-refused, compile-buffer, compile-kept}
 use Rattle.demands.specs.Laws.Image.{decided-run, decided-expand, run-value, expand-value}
-use mathlib.Core.Logic.{_↔_, _⊎_}
-use mathlib.Core.Bool.{true}
 use native.Mathlib.Nat.{one-mul}
 use native.Mathlib.Numerals.{add-one}
 use lib.Signed.{_≤ℤ_}
@@ -40,6 +41,13 @@ use Rattle.cascade.specs.Theorems as cascades
 
 -- Demand 1. Every call whose table, limits, buffers, record list, image and X document 01 admits is accepted and worked through to its answer.
 -- Everything else is refused with the one number that 01's order of checks gives, and a refusal leaves each lent buffer unchanged.
+
+-- An answer that goes by an order of checks: what is not admitted is refused with the number of the first check that fails, and with no other.
+pub else-refused : {A : Type 0} {checks : List Check} (answer : Answer A) → Decided answer checks → ¬ AllHold checks → (k : ℕ) × (FirstFails checks k × (answer ≡ refused k))
+else-refused = not-all-hold
+
+pub one-number : {A : Type 0} {checks : List Check} (answer : Answer A) → Decided answer checks → (j k : ℕ) → FirstFails checks j → FirstFails checks k → j ≡ k
+one-number = one-failure
 
 -- ---- Build
 
@@ -67,13 +75,17 @@ module _ (n : ℕ) (offset : ℤ) (list : List ℤ) (x : ℕ) where
 
   -- Admitted: the offset plus the weights of the 1-edges on the path from the root.
   pub walk-answers : AllHold (walkChecks n offset list x) → walk n offset list x ≡ accepted (walkValue n offset list x)
-  walk-answers = walk-answered n offset list x
+  walk-answers = walk-value n offset list x
 
 -- ---- Plan
 
 module _ (n : ℕ) (table : List ℤ) (limit : ℕ) where
   pub plan-decided : Decided (planAnswer n table limit) (planChecks n table limit)
   plan-decided = decided-plan n table limit
+
+  -- What the rule of the chosen grouping calls a grouping that fits is one as the paper says it.
+  pub fitting-grouping : (sizes : List ℕ) → FittingGrouping n table limit sizes ↔ ((isGrouping n sizes ≡ true) × (fits n table limit sizes ≡ true))
+  fitting-grouping = fitting-tests n table limit
 
   -- Where some grouping fits there is a chosen one, and one only.
   pub chosen-exists : (sizes : List ℕ) → FittingGrouping n table limit sizes → (best : List ℕ) × BestGrouping n table limit best

@@ -32,6 +32,7 @@ use Rattle.demands.specs.Laws.Tests.{le-test, eq-test, and-test, limit-t
 unfoldable KeepFrom : ℕ → List ℤ → ℕ → ℕ → List ℕ → Type 0
 KeepFrom n table limit h sizes = (j : ℕ) → j < length sizes → railAt n table (h + sumOf (take j sizes)) + getD sizes j 0 ≤ limit
 
+-- The tests from cut h on are these conditions.
 fits-from-test : (n : ℕ) (table : List ℤ) (limit h : ℕ) (sizes : List ℕ) → (fitsFrom n table limit h sizes ≡ true) ↔ KeepFrom n table limit h sizes
 unfolding fitsFrom addressWidth KeepFrom sumOf
 fits-from-test n table limit h [] = ((λ e j l. absurd (omega arith)), (λ k. refl))
@@ -50,8 +51,8 @@ fits-from-test n table limit h (g ∷ sizes) =
     keeps p zero l = let here : h + 0 ≡ h = omega arith in rw here (p .0)
     keeps p (suc j) l = subst (λ c. railAt n table c + getD sizes j 0 ≤ limit) (sym (joined (sumOf (take j sizes)))) (p .1 j (omega arith))
 
--- A grouping that fits, as the tests say it and as the paper does.
-pub fitting-test : (n : ℕ) (table : List ℤ) (limit : ℕ) (sizes : List ℕ) → ((isGrouping n sizes && fits n table limit sizes) ≡ true) ↔ FittingGrouping n table limit sizes
+-- The tests by which groupings and the limit are judged are the paper's conditions.
+fitting-test : (n : ℕ) (table : List ℤ) (limit : ℕ) (sizes : List ℕ) → ((isGrouping n sizes && fits n table limit sizes) ≡ true) ↔ FittingGrouping n table limit sizes
 unfolding isGrouping fits KeepFrom
 fitting-test n table limit sizes =
     let some = every (leb 1) sizes in
@@ -68,26 +69,34 @@ fitting-test n table limit sizes =
       (λ r. i .1 ((r .some, r .sum), λ j l. rw (none-before j) (r .keeps j l))),
     )
 
+pub fitting-tests : (n : ℕ) (table : List ℤ) (limit : ℕ) (sizes : List ℕ) → FittingGrouping n table limit sizes ↔ ((isGrouping n sizes ≡ true) × (fits n table limit sizes ≡ true))
+fitting-tests n table limit sizes = let i = fitting-test n table limit sizes in (
+  (λ f. both (isGrouping n sizes) (fits n table limit sizes) (i .1 f)),
+  (λ t. i .0 (and-both (isGrouping n sizes) (fits n table limit sizes) (t .0) (t .1))),
+)
+
 module _ (n : ℕ) (table : List ℤ) (limit : ℕ) where
   -- Some grouping fits exactly where one is chosen.
   chosen-exists : (answer : Answer (List ℕ)) → chosen n table limit ≡ answer → ((sizes : List ℕ) × FittingGrouping n table limit sizes) ↔ ((a : List ℕ) × (answer ≡ accepted a))
   chosen-exists (accepted best) e =
       let b = chosen-best n table limit best e in (
         (λ s. (best, refl)),
-        (λ s. (best, fitting-test n table limit best .0 (and-both (isGrouping n best) (fits n table limit best) (b .grouping) (b .fitting)))),
+        (λ s. (best, fitting-tests n table limit best .1 (b .grouping, b .fitting))),
       )
   chosen-exists (refused k) e = (
     (λ s.
-        let t = both (isGrouping n (s .0)) (fits n table limit (s .0)) (fitting-test n table limit (s .0) .1 (s .1)) in
+        let t = fitting-tests n table limit (s .0) .0 (s .1) in
         absurd (true≢false (sym (t .1) ∙ chosen-refuses n table limit .0 (e ∙ ap refused (chosen-refuses-by-nine n table limit k e)) (s .0) (t .0)))),
     (λ s. not-refused (s .0) k (sym (s .1))),
   )
 
+  -- The choice goes by 9 alone.
   decided-chosen : Decided (chosen n table limit) (((sizes : List ℕ) × FittingGrouping n table limit sizes) otherwise 9 ∷ [])
   decided-chosen = decided-otherwise (chosen n table limit) (chosen-exists (chosen n table limit) refl) (chosen-refuses-by-nine n table limit)
 
   -- ---- Plan
 
+  -- The sizes go by Plan's checks, and so does its answer.
   decided-sizes : Decided (plan n table limit) (planChecks n table limit)
   unfolding plan planChecks
   decided-sizes = decided-table n table (decided-unless (isLimit limit) (limit-test limit) decided-chosen)
@@ -123,6 +132,7 @@ module _ (n : ℕ) (table : List ℤ) (limit : ℕ) where
     (λ h. le-test (length (imageFor n table sizes)) room .1 (h sizes b)),
   )
 
+  -- Compile: Plan's checks, then the room for the image.
   pub decided-compile : (room : ℕ) → Decided (compileAnswer n table limit room) (compileChecks n table limit room)
   unfolding compileAnswer compile compileChecks
   decided-compile room =
@@ -136,6 +146,7 @@ module _ (n : ℕ) (table : List ℤ) (limit : ℕ) where
   plan-only : (best : List ℕ) → BestGrouping n table limit best → (sizes : List ℕ) → plan n table limit ≡ accepted sizes → sizes ≡ best
   plan-only best b sizes e = one-best sizes best (plan-best sizes e) b
 
+  -- Where Plan's checks hold the best grouping is answered: its totals, and its arrays.
   sizes-value : AllHold (planChecks n table limit) → (best : List ℕ) → BestGrouping n table limit best → plan n table limit ≡ accepted best
   sizes-value h best b = answers-value decided-sizes best (plan-only best b) h
 

@@ -21,6 +21,7 @@ decided-accepted a = record {
 one-answer {ℓ} : {A : Type 0} {X : Type ℓ} {answer : Answer A} (a : A) (k : ℕ) → answer ≡ accepted a → answer ≡ refused k → X
 one-answer a k e h = not-refused a k (sym e ∙ h)
 
+-- Equal refusals have one number.
 same-number : {A : Type 0} (j k : ℕ) → _≡_ {A = Answer A} (refused j) (refused k) → j ≡ k
 same-number j k h = cc
 
@@ -140,6 +141,17 @@ decided-otherwise (refused j) h r = record {
   );
 }
 
+-- ---- everything else
+
+-- Where not all hold, some check is the first that fails, and the answer is its number.
+pub not-all-hold : {A : Type 0} {checks : List Check} (answer : Answer A) → Decided answer checks → ¬ AllHold checks → (k : ℕ) × (FirstFails checks k × (answer ≡ refused k))
+not-all-hold (accepted a) d h = absurd (h (d .accepts .1 (a, refl)))
+not-all-hold (refused k) d h = (k, (d .refuses k .1 refl, refl))
+
+-- The first failure has one number.
+pub one-failure : {A : Type 0} {checks : List Check} (answer : Answer A) → Decided answer checks → (j k : ℕ) → FirstFails checks j → FirstFails checks k → j ≡ k
+one-failure answer d j k f g = same-number j k (sym (d .refuses j .0 f) ∙ d .refuses k .0 g)
+
 -- ---- what is answered
 
 -- Where all checks hold and every accepted answer is this value, this value is answered.
@@ -150,6 +162,7 @@ answers-value d value only h = let s = d .accepts .0 h in s .1 ∙ ap accepted (
 pub unless-only : {A : Type 0} {Right : A → Type 0} {rest : Answer A} (b : Bool) (number : ℕ) → ((a : A) → rest ≡ accepted a → Right a) → (a : A) → unless b number rest ≡ accepted a → Right a
 unless-only {rest = rest} b number only a e = only a (unless-accepted b number rest a e .1)
 
+-- There is one accepted value.
 pub accepted-only : {A : Type 0} (value a : A) → accepted value ≡ accepted a → a ≡ value
 accepted-only value a e = let same : value ≡ a = cc in sym same
 

@@ -31,6 +31,7 @@ decided-table n table d =
     (decided-unless (every isValue table) (every-test isValue table (pos 0) value-test)
     d))
 
+-- Build: the table, then the room for the records.
 pub decided-build : (n : ℕ) (table : List ℤ) (room : ℕ) → Decided (buildAnswer n table room) (buildChecks n table room)
 unfolding buildAnswer build buildChecks nodeRoom recordSize
 decided-build n table room =
@@ -39,6 +40,7 @@ decided-build n table room =
 
 -- ---- a record list
 
+-- A child.
 child-test : (list : List ℤ) (k : ℕ) (child : ℤ) → (childFits list k child ≡ true) ↔ ListedChild list k child
 unfolding childFits
 child-test list k child =
@@ -50,6 +52,7 @@ child-test list k child =
       (λ r. i .1 (r .earlier, r .lower)),
     )
 
+-- A record.
 record-test : (n : ℕ) (list : List ℤ) (k : ℕ) → (recordFits n list k ≡ true) ↔ ListedRecord n list k
 unfolding recordFits isWeight
 record-test n list k =
@@ -68,6 +71,7 @@ record-test n list k =
       (λ r. i .1 (((r .variable, r .low), r .high), r .weight)),
     )
 
+-- All of the list.
 list-test : (n : ℕ) (list : List ℤ) → (listFits n list ≡ true) ↔ RecordList n list
 unfolding listFits nodeRoom recordSize recordCount
 list-test n list =
@@ -83,6 +87,7 @@ list-test n list =
       (λ r. i .1 ((r .whole, r .most), r .records)),
     )
 
+-- Walk: n, the offset, the list, X.
 pub decided-walk : (n : ℕ) (offset : ℤ) (list : List ℤ) (x : ℕ) → Decided (walk n offset list x) (walkChecks n offset list x)
 unfolding walk walkChecks
 decided-walk n offset list x =
@@ -94,6 +99,7 @@ decided-walk n offset list x =
 
 -- ---- what is answered
 
+-- Build: node count and offset.
 pub build-value : (n : ℕ) (table : List ℤ) (room : ℕ) → AllHold (buildChecks n table room) → buildAnswer n table room ≡ accepted (summaryOf n table)
 build-value n table room = answers-value (decided-build n table room) (summaryOf n table) (build-answers n table room)
 
@@ -104,8 +110,9 @@ build-buffer n table buffer h =
     build-leaves n table buffer (summaryOf n table) e
     ∙ ap (λ count. written n table ++ drop count buffer) (summary-length n table buffer (summaryOf n table) e)
 
-pub walk-answered : (n : ℕ) (offset : ℤ) (list : List ℤ) (x : ℕ) → AllHold (walkChecks n offset list x) → walk n offset list x ≡ accepted (walkValue n offset list x)
+-- Walk: the value on the path.
+pub walk-value : (n : ℕ) (offset : ℤ) (list : List ℤ) (x : ℕ) → AllHold (walkChecks n offset list x) → walk n offset list x ≡ accepted (walkValue n offset list x)
 unfolding walk
-walk-answered n offset list x =
+walk-value n offset list x =
     answers-value (decided-walk n offset list x) (walkValue n offset list x)
     (unless-only (isVariables n) 1 (unless-only (isValue offset) 5 (unless-only (listFits n list) 6 (unless-only (ltb x (2 ^ n)) 7 (accepted-only (walkValue n offset list x))))))

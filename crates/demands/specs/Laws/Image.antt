@@ -33,6 +33,7 @@ use Rattle.demands.specs.Laws.Tests.{le-test, lt-test, eq-test, and-test
 
 -- ---- one place
 
+-- The operand rules of each command.
 rules-test : (p : Place) (command : Command) → (keepsRules p command ≡ true) ↔ OperandRules p command
 unfolding keepsRules OperandRules
 rules-test p (Table n offset) = and-test (isVariables n) (isValue offset) (variables-test n) (value-test offset)
@@ -40,7 +41,7 @@ rules-test p (Cell group incoming outgoing width) = (shape-facts p group incomin
 rules-test p (Word class weight) = (word-facts p class weight, word-test p class weight)
 rules-test p (End bits) = eq-test bits (p .bits)
 
--- A condition on what a test finds not so.
+-- Words are left, or the width is the least.
 width-test : (p : Place) → (widthIsLeast p ≡ true) ↔ (p .words ≡ 0 → p .width ≡ weightWidth (p .least ∷ p .greatest ∷ []))
 unfolding widthIsLeast
 width-test p =
@@ -55,6 +56,7 @@ other-due {ℓ} : {X : Type ℓ} (d : Due) → d ≡ end → (dueByte d ≡ 0x45
 unfolding dueByte
 other-due d e f = absurd (f (ap dueByte e))
 
+-- Nothing follows the end.
 ends-test : (image : List ℕ) (p : Place) → (endsWell image p (commandHere image p) ≡ true) ↔ (due p ≡ end → length image ≡ p .at + 5)
 unfolding commandHere commandAt endsWell dueByte
 ends-test image p = by-due (due p)
@@ -175,6 +177,7 @@ module _ (image : List ℕ) where
     (λ f. t (cardOf commands .n) .1 (f (cardOf commands) (accepted-card image commands h, accepted-image image commands h bytes))),
   )
 
+  -- Run: the image, then X.
   pub decided-run : AreBytes image → (x : ℕ) → Decided (run image x) (runChecks image x)
   unfolding run runChecks
   decided-run bytes x =
@@ -183,6 +186,7 @@ module _ (image : List ℕ) where
       decided-unless (ltb x (2 ^ cardOf commands .n)) (variables-of-card bytes (λ n. ltb x (2 ^ n)) (λ n. lt-test x (2 ^ n)) commands h)
       (decided-accepted (runCard (cardOf commands) x)))
 
+  -- Expand: the image, then the buffer's length.
   pub decided-expand : AreBytes image → (room : ℕ) → Decided (expand image room) (expandChecks image room)
   unfolding expand expandChecks
   decided-expand bytes room =
@@ -194,10 +198,12 @@ module _ (image : List ℕ) where
   -- ---- what is answered
 
   module _ (card : Card) (is : ImageOf image card) where
+    -- The card's answer.
     pub run-value : (x : ℕ) → x < 2 ^ card .n → run image x ≡ accepted (runCard card x)
     unfolding ImageOf
     run-value x l = ap (λ i. run i x) (is .1) ∙ card-run card (is .0) x l
 
+    -- The card's values.
     pub expand-value : (room : ℕ) → room ≡ 2 ^ card .n → expand image room ≡ accepted (cardValues card)
     unfolding ImageOf
     expand-value room e = ap (λ i. expand i room) (is .1) ∙ ap (expand (imageOf card)) e ∙ card-expand card (is .0)

@@ -33,6 +33,7 @@ passed : (b : Bool) → (b ≡ true) ↔ T b
 passed true = ((λ h. tt), (λ t. refl))
 passed false = ((λ h. absurd (false≢true h)), (λ t. absurd t))
 
+-- The order of integers.
 pub less-test : (a b : ℤ) → (ltZ a b ≡ true) ↔ (a <ℤ b)
 less-test a b = ((λ h. record { lt = passed (ltZ a b) .0 h }), (λ h. passed (ltZ a b) .1 (h .lt)))
 
@@ -67,6 +68,7 @@ value-test z = between-test _ _ z
 
 -- ---- every element
 
+-- Every element of a list, by its place.
 pub every-test : {A : Type 0} {P : A → Type 0} (test : A → Bool) (l : List A) (d : A) → ((a : A) → (test a ≡ true) ↔ P a) → (every test l ≡ true) ↔ ((x : ℕ) → x < length l → P (getD l x d))
 every-test test l d t = (
   (λ h x r. t (getD l x d) .0 (every-at test l d h x r)),

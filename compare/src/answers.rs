@@ -2,7 +2,7 @@
 //! value holds a pattern at first, which a refusal must leave.
 
 use crate::proved;
-use panstrait_reference::{Built, Ran, Refusal};
+use panstrait_reference::{Built, Cell, Compiled, Planned, Ran, Refusal};
 
 /// What is lent for single values before a call.
 const NUMBER: i32 = 0x5EED_1234;
@@ -44,4 +44,66 @@ pub fn run(image: &[u8], x: usize) -> Result<Ran, Refusal> {
 
 pub fn expand(image: &[u8], table: &mut [i32]) -> Result<(), Refusal> {
     answer(proved::expand(image, table), (), (), ())
+}
+
+/// Numbers that stand for a cell: group, incoming, outgoing, width, bits.
+const CELL: usize = 5;
+
+/// The entries of an answer array; the places past the last one hold 0.
+fn entries(array: &[usize], count: usize) -> Vec<usize> {
+    let (entries, rest) = array.split_at(count);
+    assert!(rest.iter().all(|&place| place == 0), "{array:?}");
+    entries.to_vec()
+}
+
+fn cells(array: &[usize], count: usize) -> Vec<Cell> {
+    let cell = |numbers: &[usize]| Cell {
+        group: numbers[0],
+        incoming: numbers[1],
+        outgoing: numbers[2],
+        width: numbers[3],
+        bits: numbers[4],
+    };
+    let numbers = entries(array, CELL * count);
+    numbers.chunks(CELL).map(cell).collect()
+}
+
+pub fn plan(n: usize, table: &[i32], limit: usize) -> Result<Planned, Refusal> {
+    let pattern = ([COUNT; 12], [COUNT; 12 * CELL], COUNT, COUNT);
+    let (mut sizes, mut row, mut count, mut bits) = pattern;
+    let number = proved::plan(n, table, limit, &mut sizes, &mut row, &mut count, &mut bits);
+    answer(number, (), (sizes, row, count, bits), pattern)?;
+    Ok(Planned {
+        sizes: entries(&sizes, count),
+        cells: cells(&row, count),
+        bits,
+    })
+}
+
+pub fn compile(
+    n: usize,
+    table: &[i32],
+    limit: usize,
+    image: &mut [u8],
+) -> Result<Compiled, Refusal> {
+    let pattern = ([COUNT; 12 * CELL], COUNT, COUNT, COUNT, COUNT);
+    let (mut row, mut length, mut nodes, mut count, mut bits) = pattern;
+    let number = proved::compile(
+        n,
+        table,
+        limit,
+        image,
+        &mut row,
+        &mut length,
+        &mut nodes,
+        &mut count,
+        &mut bits,
+    );
+    answer(number, (), (row, length, nodes, count, bits), pattern)?;
+    Ok(Compiled {
+        length,
+        nodes,
+        cells: cells(&row, count),
+        bits,
+    })
 }

@@ -47,6 +47,32 @@ mod c {
             table: *mut i32,
             table_len: usize,
         ) -> u8;
+        pub fn panstrait_plan(
+            n: usize,
+            table: *const i32,
+            table_len: usize,
+            limit: usize,
+            sizes: *mut usize,
+            sizes_len: usize,
+            cells: *mut usize,
+            cells_len: usize,
+            count: *mut usize,
+            bits: *mut usize,
+        ) -> u8;
+        pub fn panstrait_compile(
+            n: usize,
+            table: *const i32,
+            table_len: usize,
+            limit: usize,
+            image: *mut u8,
+            image_len: usize,
+            cells: *mut usize,
+            cells_len: usize,
+            length: *mut usize,
+            nodes: *mut usize,
+            count: *mut usize,
+            bits: *mut usize,
+        ) -> u8;
     }
 }
 
@@ -115,4 +141,63 @@ pub fn run(image: &[u8], x: usize, value: &mut i32, words: &mut usize) -> u8 {
 /// Expand: 0 with the table, or the refusal's number.
 pub fn expand(image: &[u8], table: &mut [i32]) -> u8 {
     unsafe { c::panstrait_expand(image.as_ptr(), image.len(), table.as_mut_ptr(), table.len()) }
+}
+
+/// Plan: 0 with sizes, cells, their count and the bits, or the refusal's
+/// number, or 27 where a row has not its length.
+pub fn plan(
+    n: usize,
+    table: &[i32],
+    limit: usize,
+    sizes: &mut [usize],
+    cells: &mut [usize],
+    count: &mut usize,
+    bits: &mut usize,
+) -> u8 {
+    unsafe {
+        c::panstrait_plan(
+            n,
+            table.as_ptr(),
+            table.len(),
+            limit,
+            sizes.as_mut_ptr(),
+            sizes.len(),
+            cells.as_mut_ptr(),
+            cells.len(),
+            count,
+            bits,
+        )
+    }
+}
+
+/// Compile: 0 with the image, cells, length, node count, cell count and bits,
+/// or the refusal's number, or 27 where the row has not its length.
+#[allow(clippy::too_many_arguments)]
+pub fn compile(
+    n: usize,
+    table: &[i32],
+    limit: usize,
+    image: &mut [u8],
+    cells: &mut [usize],
+    length: &mut usize,
+    nodes: &mut usize,
+    count: &mut usize,
+    bits: &mut usize,
+) -> u8 {
+    unsafe {
+        c::panstrait_compile(
+            n,
+            table.as_ptr(),
+            table.len(),
+            limit,
+            image.as_mut_ptr(),
+            image.len(),
+            cells.as_mut_ptr(),
+            cells.len(),
+            length,
+            nodes,
+            count,
+            bits,
+        )
+    }
 }

@@ -1,0 +1,319 @@
+//! Plan and Compile: sizes, cells, bits, the image, and what is left of the
+//! buffers; then Run and Expand on what was compiled.
+
+use panstrait_compare::{answers, proved};
+use panstrait_reference as reference;
+use panstrait_reference::{Compiled, Planned, Ran, Refusal};
+use panstrait_samples::{cases, tables, Random, BYTE, FIGURE, GREATEST, LEAST, NUMBER};
+
+/// Both programs' plans.
+fn same_plan(n: usize, table: &[i32], limit: usize) -> Result<Planned, Refusal> {
+    let answer = answers::plan(n, table, limit);
+    assert!(
+        answer == reference::plan(n, table, limit),
+        "n {n}, limit {limit}: {answer:?} for {table:?}"
+    );
+    answer
+}
+
+/// Both programs' answers for an image buffer of so many bytes, compared
+/// whole, with the bytes before and after it.
+fn same_compile(
+    n: usize,
+    table: &[i32],
+    limit: usize,
+    room: usize,
+) -> Result<(Compiled, Vec<u8>), Refusal> {
+    let mut ours = vec![BYTE; room + 8];
+    let mut theirs = ours.clone();
+    let lent = 4..room + 4;
+    let answer = answers::compile(n, table, limit, &mut ours[lent.clone()]);
+    assert!(
+        answer == reference::compile(n, table, limit, &mut theirs[lent]),
+        "n {n}, limit {limit}, room {room}: {answer:?} for {table:?}"
+    );
+    assert!(ours == theirs, "n {n}, limit {limit}: image of {table:?}");
+    let compiled = answer?;
+    let image = ours[4..4 + compiled.length].to_vec();
+    Ok((compiled, image))
+}
+
+/// The same answer with a buffer of the image's length, and one byte short of
+/// it a refusal.
+fn exact_and_short(n: usize, table: &[i32], limit: usize, compiled: &Compiled, image: &[u8]) {
+    let mut exact = vec![BYTE; image.len()];
+    let answer = answers::compile(n, table, limit, &mut exact);
+    assert_eq!(answer.as_ref(), Ok(compiled));
+    assert!(exact == image, "n {n}, limit {limit}: image of {table:?}");
+    let mut short = vec![BYTE; image.len() - 1];
+    assert_eq!(answers::compile(n, table, limit, &mut short), Err(10));
+    assert!(short.iter().all(|&byte| byte == BYTE));
+}
+
+/// The image gives the table back, one word read in each cell.
+fn gives_back(table: &[i32], image: &[u8], words: usize, random: &mut Random) {
+    let mut values = vec![NUMBER; table.len()];
+    assert_eq!(answers::expand(image, &mut values), Ok(()));
+    assert!(values == table, "values of {table:?}");
+    let some = (0..6).map(|_| random.below(table.len()));
+    for x in some.chain([0, table.len() - 1]) {
+        let value = table[x];
+        assert_eq!(answers::run(image, x), Ok(Ran { value, words }));
+    }
+}
+
+/// Plan, Compile and what follows from them, for one table and one limit.
+fn check(n: usize, table: &[i32], limit: usize, random: &mut Random) {
+    let planned = same_plan(n, table, limit);
+    let compiled = same_compile(n, table, limit, 65_536);
+    let (planned, (compiled, image)) = match (planned, compiled) {
+        (Ok(planned), Ok(compiled)) => (planned, compiled),
+        (planned, compiled) => {
+            assert_eq!((planned.err(), compiled.err()), (Some(9), Some(9)));
+            return;
+        }
+    };
+    assert_eq!(planned.cells, compiled.cells);
+    assert_eq!(planned.bits, compiled.bits);
+    exact_and_short(n, table, limit, &compiled, &image);
+    gives_back(table, &image, planned.sizes.len(), random);
+}
+
+fn check_limits(n: usize, table: &[i32], random: &mut Random) {
+    for limit in 1..=12 {
+        check(n, table, limit, random);
+    }
+}
+
+#[test]
+fn structured_tables() {
+    let mut random = Random(41);
+    for n in 1..=12 {
+        for table in tables::structured(n) {
+            check_limits(n, &table, &mut random);
+        }
+    }
+}
+
+#[test]
+fn tables_that_are_hard_to_tell_apart() {
+    let mut random = Random(42);
+    for n in 1..=12 {
+        for table in tables::adversarial(n) {
+            check_limits(n, &table, &mut random);
+        }
+    }
+}
+
+#[test]
+fn random_tables() {
+    let mut random = Random(43);
+    for n in 1..=12 {
+        for _ in 0..[60, 20, 6][n / 5] {
+            let table = tables::random(n, &mut random);
+            check_limits(n, &table, &mut random);
+        }
+    }
+}
+
+#[test]
+fn all_small_tables() {
+    let mut random = Random(44);
+    for code in 0..4_usize.pow(4) {
+        let table = tables::of(2, |x| (code >> (2 * x) & 3) as i32);
+        check_limits(2, &table, &mut random);
+    }
+    for code in 0..1_usize << 8 {
+        let table = tables::of(3, |x| (code >> x & 1) as i32);
+        check_limits(3, &table, &mut random);
+    }
+}
+
+/// Small weights and few values, where costs are often equal.
+#[test]
+fn tables_with_ties() {
+    let mut random = Random(45);
+    let planned = same_plan(4, &cases::TIE, 4).expect("a grouping fits");
+    assert_eq!((planned.sizes, planned.bits), (vec![2, 1, 1], 40));
+    for _ in 0..400 {
+        let n = 3 + random.below(4);
+        let table = tables::of(n, |_| random.between(-2, 1));
+        check(n, &table, 12, &mut random);
+    }
+}
+
+#[test]
+fn more_than_256_classes() {
+    let table = tables::many_classes();
+    let planned = same_plan(12, &table, 12).expect("one wide cell fits");
+    assert_eq!(planned.cells[1].outgoing, 300);
+    check_limits(12, &table, &mut Random(46));
+}
+
+#[test]
+fn a_long_image() {
+    let table = tables::long_image();
+    let (compiled, _) = same_compile(12, &table, 12, 65_536).expect("one wide cell fits");
+    assert_eq!(compiled.length, 35_865);
+    check_limits(12, &table, &mut Random(48));
+}
+
+#[test]
+fn values_as_far_apart_as_can_be() {
+    for case in cases::extreme_halves() {
+        check_limits(case.n, &case.table, &mut Random(47));
+    }
+}
+
+/// Both programs' refusal, of Plan and of Compile, with room and without.
+fn refused(n: usize, table: &[i32], limit: usize, refusal: Refusal) {
+    assert_eq!(same_plan(n, table, limit), Err(refusal));
+    for room in [0, 1_000] {
+        assert_eq!(same_compile(n, table, limit, room), Err(refusal));
+    }
+}
+
+#[test]
+fn variables_out_of_range() {
+    let wrong = [0, 13, 14, 31, 32, 63, 64, 65, 1 << 32, usize::MAX];
+    for n in wrong.into_iter().chain(cases::WRAPPED_3) {
+        for values in [0, 1, 2, 7, 8, 9, 4_096, 8_192] {
+            refused(n, &vec![0; values], 12, 1);
+        }
+    }
+}
+
+#[test]
+fn wrong_table_lengths() {
+    for n in 1..=12 {
+        let size = 1 << n;
+        for wrong in [0, 1, size - 1, size + 1, 2 * size] {
+            refused(n, &vec![0; wrong], 12, 2);
+        }
+    }
+}
+
+#[test]
+fn values_out_of_range() {
+    for n in 1..=12 {
+        for place in [0, 1, (1 << n) / 2, (1 << n) - 1] {
+            for value in [LEAST - 1, GREATEST + 1, i32::MIN, i32::MAX] {
+                let table = tables::of(n, |x| if x == place { value } else { 0 });
+                refused(n, &table, 12, 3);
+            }
+        }
+    }
+}
+
+#[test]
+fn limits_out_of_range() {
+    // Some of them are 4 in their low bits.
+    let wrong = [
+        0,
+        13,
+        16,
+        31,
+        32,
+        63,
+        64,
+        (1 << 8) + 4,
+        (1 << 16) + 4,
+        (1 << 32) + 4,
+        usize::MAX,
+    ];
+    for limit in wrong {
+        refused(4, &FIGURE, limit, 8);
+        refused(12, &vec![7; 4_096], limit, 8);
+    }
+}
+
+#[test]
+fn buffers_that_are_too_short() {
+    let table = tables::of(8, |x| (x * x) as i32);
+    let (compiled, _) = same_compile(8, &table, 12, 65_536).expect("a grouping fits");
+    for room in 0..compiled.length {
+        assert_eq!(same_compile(8, &table, 12, room), Err(10));
+    }
+    assert_eq!(same_compile(1, &[5, 8], 1, 31), Err(10));
+    assert!(same_compile(1, &[5, 8], 1, 32).is_ok());
+}
+
+/// Every set of refusals that can hold at once: the first in the paper's order.
+#[test]
+fn several_refusals_at_once() {
+    for case in cases::refused_plans() {
+        let (n, table, limit) = (case.n, &case.table, case.limit);
+        let first = case.refusals[0];
+        let answer = same_compile(n, table, limit, case.room);
+        assert_eq!(answer, Err(first), "n {n}: {:?}", case.refusals);
+        if first != 10 {
+            let answer = same_plan(n, table, limit);
+            assert_eq!(answer, Err(first), "n {n}: {:?}", case.refusals);
+        }
+    }
+}
+
+/// What is lent for numbers, before and after a call.
+const PLACE: usize = 0x5EED_1234_5678;
+
+/// The calls that rows of another length are tried on: a sound one, and one
+/// for each refusal.
+fn calls() -> Vec<(usize, Vec<i32>, usize)> {
+    vec![
+        (4, FIGURE.to_vec(), 4),
+        (13, vec![0; 8_192], 4),
+        (4, FIGURE[..15].to_vec(), 4),
+        (1, vec![0, GREATEST + 1], 4),
+        (4, FIGURE.to_vec(), 13),
+        (4, FIGURE.to_vec(), 1),
+    ]
+}
+
+/// Rows of another length are refused by 27 before anything else.
+#[test]
+fn rows_of_another_length_for_plan() {
+    for (n, table, limit) in calls() {
+        for (sizes, cells) in [
+            (0, 60),
+            (11, 60),
+            (13, 60),
+            (12, 0),
+            (12, 59),
+            (12, 61),
+            (60, 12),
+        ] {
+            let (mut sizes, mut cells) = (vec![PLACE; sizes], vec![PLACE; cells]);
+            let [mut count, mut bits] = [PLACE; 2];
+            let number = proved::plan(
+                n, &table, limit, &mut sizes, &mut cells, &mut count, &mut bits,
+            );
+            assert_eq!((number, count, bits), (27, PLACE, PLACE));
+            assert!(sizes.iter().chain(&cells).all(|&place| place == PLACE));
+        }
+    }
+}
+
+#[test]
+fn rows_of_another_length_for_compile() {
+    for (n, table, limit) in calls() {
+        for (cells, room) in [(0, 1_000), (12, 1_000), (59, 1_000), (61, 1_000), (59, 0)] {
+            let (mut image, mut cells) = (vec![BYTE; room], vec![PLACE; cells]);
+            let [mut length, mut nodes, mut count, mut bits] = [PLACE; 4];
+            let number = proved::compile(
+                n,
+                &table,
+                limit,
+                &mut image,
+                &mut cells,
+                &mut length,
+                &mut nodes,
+                &mut count,
+                &mut bits,
+            );
+            assert_eq!((number, length, nodes), (27, PLACE, PLACE));
+            assert_eq!((count, bits), (PLACE, PLACE));
+            assert!(cells.iter().all(|&place| place == PLACE));
+            assert!(image.iter().all(|&byte| byte == BYTE));
+        }
+    }
+}

@@ -3,4 +3,5 @@ pub mod Checks
 pub mod Tests
 pub mod Diagram
 pub mod Cascade
+pub mod Clients
 pub mod Image

@@ -1,1 +1,46 @@
-// The demands and the checked list: theorems over the definitions of the crates below.
+// The demands and the checked list: theorems over the definitions of the crates below, and two clients of the operations that
+// are proved from their contracts alone.
+ghost use Rattle.demands.specs.Clients.{RunsTable, ExpandsTable};
+use cascade::Outcome;
+use image::Expanded;
+use image::Ran;
+
+// A table is compiled into a lent buffer, and the compiled image is run at X.
+pub fn run_table(n: usize, table: &[i32], limit: usize, image: &mut [u8], x: usize) -> Ran
+    ensures { λ r. ⌜ RunsTable n (now (table .entry)) limit (now (image .entry)) x r (now (image .exit)) ⌝ }
+{
+    let compiled = compiler::compile(n, table, limit, image);
+    let outcome = compiled.outcome;
+    match outcome {
+        Outcome::Image {
+            length,
+            nodes: _,
+            cells: _,
+            bits: _,
+        } => image::run(&image[..length], x),
+        Outcome::Refused(number) => Ran::Refused(number),
+    }
+}
+
+// A table is compiled into a lent buffer, and the compiled image is expanded into another.
+pub fn expand_table(
+    n: usize,
+    table: &[i32],
+    limit: usize,
+    image: &mut [u8],
+    values: &mut [i32],
+) -> Expanded
+    ensures { λ r. ⌜ ExpandsTable n (now (table .entry)) limit (now (image .entry)) (now (values .entry)) r (now (image .exit)) (now (values .exit)) ⌝ }
+{
+    let compiled = compiler::compile(n, table, limit, image);
+    let outcome = compiled.outcome;
+    match outcome {
+        Outcome::Image {
+            length,
+            nodes: _,
+            cells: _,
+            bits: _,
+        } => image::expand(&image[..length], values),
+        Outcome::Refused(number) => Expanded::Refused(number),
+    }
+}

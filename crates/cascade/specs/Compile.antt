@@ -28,10 +28,10 @@ compile n table limit room =
 pub record Report : Type 0 where
   pub imageLength : ℕ
   pub nodes : ℕ
-  pub totals : Totals
+  pub planned : Totals
 
 unfoldable pub report : ℕ → List ℤ → List ℕ → Report
-report n table sizes = record { imageLength = length (imageFor n table sizes); nodes = nodeCount n table; totals = totals n table sizes }
+report n table sizes = record { imageLength = length (imageFor n table sizes); nodes = nodeCount n table; planned = totals n table sizes }
 
 unfoldable pub compileAnswer : ℕ → List ℤ → ℕ → ℕ → Answer Report
 compileAnswer n table limit room = mapAnswer (report n table) (compile n table limit room)
@@ -50,7 +50,7 @@ compiledImage r buffer = take (r .imageLength) buffer
 
 -- The paper's answer that a value of the enum stands for.
 unfoldable pub outcome : Outcome → Answer Report
-outcome (Image bytes nodes cells bits) = accepted (record { imageLength = bytes; nodes = nodes; totals = record { cells = cells; bits = bits } })
+outcome (Image bytes nodes cells bits) = accepted (record { imageLength = bytes; nodes = nodes; planned = record { cells = cells; bits = bits } })
 outcome (Refused number) = refused number
 
 -- Compile's promise: its outcome, the cells beside it, and what its buffer then holds.

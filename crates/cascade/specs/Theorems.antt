@@ -93,7 +93,7 @@ module _ (n : ℕ) (table : List ℤ) (limit : ℕ) (buffer : List ℕ) (r : Rep
   image = compiledImage r (compileBuffer n table limit buffer)
 
   -- The table and the limit were admitted, and the image is that of the chosen grouping, with its length, its cells and its cost.
-  pub compiled-chosen : Accepted n table × ((isLimit limit ≡ true) × ((best : List ℕ) × ((chosen n table limit ≡ accepted best) × ((image ≡ imageFor n table best) × (r ≡ record { imageLength = length (imageFor n table best); nodes = nodeCount n table; totals = record { cells = length best; bits = cost n table best } })))))
+  pub compiled-chosen : Accepted n table × ((isLimit limit ≡ true) × ((best : List ℕ) × ((chosen n table limit ≡ accepted best) × ((image ≡ imageFor n table best) × (r ≡ record { imageLength = length (imageFor n table best); nodes = nodeCount n table; planned = record { cells = length best; bits = cost n table best } })))))
   unfolding compiledImage compileBuffer report totals cost
   compiled-chosen =
       let q = report-admits n table limit (length buffer) r compiled in
@@ -125,12 +125,12 @@ module _ (n : ℕ) (table : List ℤ) (limit : ℕ) (buffer : List ℕ) (r : Rep
   is-best = chosen-best n table limit best (compiled-chosen .1 .1 .1 .0)
 
   -- Run answers f(X) at every X below 2^n, and as many words read as Compile answered cells.
-  pub compiled-runs : (x : ℕ) → x < 2 ^ n → run image x ≡ accepted (record { value = getD table x (pos 0); words = r .totals .cells })
+  pub compiled-runs : (x : ℕ) → x < 2 ^ n → run image x ≡ accepted (record { value = getD table x (pos 0); words = r .planned .cells })
   unfolding best
   compiled-runs x l =
       ap (λ bytes. run bytes x) (compiled-chosen .1 .1 .1 .1 .0)
       ∙ image-runs n table (compiled-chosen .0) best (is-best .grouping) x l
-      ∙ ap (λ s. accepted (record { value = getD table x (pos 0); words = s .totals .cells })) (sym (compiled-chosen .1 .1 .1 .1 .1))
+      ∙ ap (λ s. accepted (record { value = getD table x (pos 0); words = s .planned .cells })) (sym (compiled-chosen .1 .1 .1 .1 .1))
 
   -- Expand returns the table.
   pub compiled-expands : expand image (2 ^ n) ≡ accepted table
@@ -138,21 +138,21 @@ module _ (n : ℕ) (table : List ℤ) (limit : ℕ) (buffer : List ℕ) (r : Rep
   compiled-expands = ap (λ bytes. expand bytes (2 ^ n)) (compiled-chosen .1 .1 .1 .1 .0) ∙ image-expands n table (compiled-chosen .0) best (is-best .grouping)
 
   -- It is read as cells, as many as Compile answered, that end with Compile's bits: the cost of its own cells.
-  pub compiled-bits : (cells : List Cell) × (reading image ≡ accepted (commands.Table n (getD table 0 (pos 0)) ∷ flatMap cellCommands cells ++ commands.End (r .totals .bits) ∷ [])) × (r .totals .cells ≡ length cells) × (r .totals .bits ≡ totalBits cells)
+  pub compiled-bits : (cells : List Cell) × (reading image ≡ accepted (commands.Table n (getD table 0 (pos 0)) ∷ flatMap cellCommands cells ++ commands.End (r .planned .bits) ∷ [])) × (r .planned .cells ≡ length cells) × (r .planned .bits ≡ totalBits cells)
   unfolding best cost
   compiled-bits = (
     cellsFrom n table 0 best,
     ap reading (compiled-chosen .1 .1 .1 .1 .0)
         ∙ image-commands n table (compiled-chosen .0) best (is-best .grouping)
-        ∙ ap (λ s. accepted (commands.Table n (getD table 0 (pos 0)) ∷ flatMap cellCommands (cellsFrom n table 0 best) ++ commands.End (s .totals .bits) ∷ [])) (sym (compiled-chosen .1 .1 .1 .1 .1)),
-    ap (λ s. s .totals .cells) (compiled-chosen .1 .1 .1 .1 .1) ∙ sym (cells-count n table 0 best),
-    ap (λ s. s .totals .bits) (compiled-chosen .1 .1 .1 .1 .1),
+        ∙ ap (λ s. accepted (commands.Table n (getD table 0 (pos 0)) ∷ flatMap cellCommands (cellsFrom n table 0 best) ++ commands.End (s .planned .bits) ∷ [])) (sym (compiled-chosen .1 .1 .1 .1 .1)),
+    ap (λ s. s .planned .cells) (compiled-chosen .1 .1 .1 .1 .1) ∙ sym (cells-count n table 0 best),
+    ap (λ s. s .planned .bits) (compiled-chosen .1 .1 .1 .1 .1),
   )
 
   -- Every grouping that fits costs at least as many.
-  pub compiled-least : (sizes : List ℕ) → isGrouping n sizes ≡ true → fits n table limit sizes ≡ true → r .totals .bits ≤ cost n table sizes
+  pub compiled-least : (sizes : List ℕ) → isGrouping n sizes ≡ true → fits n table limit sizes ≡ true → r .planned .bits ≤ cost n table sizes
   unfolding best
-  compiled-least sizes grouping fit = rw (ap (λ s. s .totals .bits) (compiled-chosen .1 .1 .1 .1 .1)) (is-best .least sizes grouping fit)
+  compiled-least sizes grouping fit = rw (ap (λ s. s .planned .bits) (compiled-chosen .1 .1 .1 .1 .1)) (is-best .least sizes grouping fit)
 
   -- The node count is that of the reduced diagram: its records and the terminal.
   pub compiled-nodes : r .nodes ≡ length (records n table) + 1
@@ -165,7 +165,7 @@ module _ (n : ℕ) (table : List ℤ) (limit : ℕ) (buffer : List ℕ) (r : Rep
 
 -- Where some grouping fits, Compile gives the image of the chosen one into every buffer that is no shorter, with its cells and its cost.
 pub compile-gives : (n : ℕ) (table : List ℤ) → Accepted n table → (limit : ℕ) → isLimit limit ≡ true → (sizes : List ℕ) → isGrouping n sizes ≡ true → fits n table limit sizes ≡ true
-    → (best : List ℕ) × BestGrouping n table limit best × ((buffer : List ℕ) → length (imageFor n table best) ≤ length buffer → (r : Report) × (compileAnswer n table limit (length buffer) ≡ accepted r) × (compiledImage r (compileBuffer n table limit buffer) ≡ imageFor n table best) × (r .totals .cells ≡ length best) × (r .totals .bits ≡ cost n table best))
+    → (best : List ℕ) × BestGrouping n table limit best × ((buffer : List ℕ) → length (imageFor n table best) ≤ length buffer → (r : Report) × (compileAnswer n table limit (length buffer) ≡ accepted r) × (compiledImage r (compileBuffer n table limit buffer) ≡ imageFor n table best) × (r .planned .cells ≡ length best) × (r .planned .bits ≡ cost n table best))
 unfolding compileAnswer compiledImage compileBuffer report totals cost
 compile-gives n table a limit l sizes grouping fit =
     let some = some-fits-chosen n table limit sizes grouping fit in

@@ -53,7 +53,7 @@ answer (planOf n limit table) =
     mapAnswer (λ t. map pos (sizeArray (plan n table limit) ++ flatMap cellNumbers (cellArray n table (plan n table limit)) ++ t .cells ∷ t .bits ∷ []))
     (planAnswer n table limit)
 answer (imageIn n limit table room) =
-    mapAnswer (λ r. map pos (r .imageLength ∷ r .nodes ∷ r .totals .cells ∷ r .totals .bits ∷ flatMap cellNumbers (compileCells n table limit room) ++ compileBuffer n table limit (filled room)))
+    mapAnswer (λ r. map pos (r .imageLength ∷ r .nodes ∷ r .planned .cells ∷ r .planned .bits ∷ flatMap cellNumbers (compileCells n table limit room) ++ compileBuffer n table limit (filled room)))
     (compileAnswer n table limit room)
 answer (nodesOf n limit table) =
     andThen (buildAnswer n table (nodeRoom n)) (λ s. mapAnswer (λ r. map pos (s .nodes ∷ r .nodes ∷ [])) (compileAnswer n table limit 65536))
@@ -74,7 +74,7 @@ text s = numbers (ascii s)
 
 -- The entries of an array of 12 places, each of so many numbers: those past the last hold 0.
 array : ℕ → List ℕ → List ℕ
-array width entries = entries ++ replicate (12 * width - length entries) 0
+array width list = list ++ replicate (12 * width - length list) 0
 
 -- A plan of one cell that takes one variable: its numbers, and the bits in all.
 oneCell : List ℕ → ℕ → List ℕ

@@ -13,7 +13,7 @@ use Rattle.cascade.specs.Compile.{compileAnswer, compileBuffer}
 
 -- Compile's refusals; then X not below 2^n is 7; else f(X), and as many words as Compile answered cells.
 unfoldable pub runTable : ℕ → List ℤ → ℕ → ℕ → ℕ → Answer Result
-runTable n table limit room x = andThen (compileAnswer n table limit room) (λ r. unless (ltb x (2 ^ n)) 7 (accepted (record { value = getD table x (pos 0); words = r .totals .cells })))
+runTable n table limit room x = andThen (compileAnswer n table limit room) (λ r. unless (ltb x (2 ^ n)) 7 (accepted (record { value = getD table x (pos 0); words = r .planned .cells })))
 
 pub record RunsTable (n : ℕ) (table : List ℤ) (limit : ℕ) (image : List ℕ) (x : ℕ) (answer : Ran) (image′ : List ℕ) : Type 0 where
   pub answered : ran answer ≡ runTable n table limit (length image) x

@@ -197,7 +197,7 @@ expanding-returns-the-table = cascades.compiled-expands
 -- gives the image of 01's chosen grouping.
 
 pub compile-gives-the-chosen-image : (n : ℕ) (table : List ℤ) → Accepted n table → (limit : ℕ) → isLimit limit ≡ true → (sizes : List ℕ) → isGrouping n sizes ≡ true → fits n table limit sizes ≡ true
-    → (best : List ℕ) × BestGrouping n table limit best × ((buffer : List ℕ) → length (imageFor n table best) ≤ length buffer → (r : Report) × (compileAnswer n table limit (length buffer) ≡ accepted r) × (compiledImage r (compileBuffer n table limit buffer) ≡ imageFor n table best) × (r .totals .cells ≡ length best) × (r .totals .bits ≡ cost n table best))
+    → (best : List ℕ) × BestGrouping n table limit best × ((buffer : List ℕ) → length (imageFor n table best) ≤ length buffer → (r : Report) × (compileAnswer n table limit (length buffer) ≡ accepted r) × (compiledImage r (compileBuffer n table limit buffer) ≡ imageFor n table best) × (r .planned .cells ≡ length best) × (r .planned .bits ≡ cost n table best))
 compile-gives-the-chosen-image = cascades.compile-gives
 
 module _ (n : ℕ) (table : List ℤ) (limit : ℕ) (buffer : List ℕ) (r : Report) (compiled : compileAnswer n table limit (length buffer) ≡ accepted r) where
@@ -206,15 +206,15 @@ module _ (n : ℕ) (table : List ℤ) (limit : ℕ) (buffer : List ℕ) (r : Rep
   image = compiledImage r (compileBuffer n table limit buffer)
 
   -- Whichever X below 2^n Run is given with that image, it answers f(X) and as many words read as the image has cells, one a group.
-  pub run-answers-the-table : (x : ℕ) → x < 2 ^ n → run image x ≡ accepted (record { value = getD table x (pos 0); words = r .totals .cells })
+  pub run-answers-the-table : (x : ℕ) → x < 2 ^ n → run image x ≡ accepted (record { value = getD table x (pos 0); words = r .planned .cells })
   run-answers-the-table = cascades.compiled-runs n table limit buffer r compiled
 
   -- The count of memory bits that the image carries is its own cells' cost.
-  pub the-bits-are-the-cells-cost : (cells : List Cell) × (reading image ≡ accepted (commands.Table n (getD table 0 (pos 0)) ∷ flatMap cellCommands cells ++ commands.End (r .totals .bits) ∷ [])) × (r .totals .cells ≡ length cells) × (r .totals .bits ≡ totalBits cells)
+  pub the-bits-are-the-cells-cost : (cells : List Cell) × (reading image ≡ accepted (commands.Table n (getD table 0 (pos 0)) ∷ flatMap cellCommands cells ++ commands.End (r .planned .bits) ∷ [])) × (r .planned .cells ≡ length cells) × (r .planned .bits ≡ totalBits cells)
   the-bits-are-the-cells-cost = cascades.compiled-bits n table limit buffer r compiled
 
   -- Every other grouping that fits costs at least as many.
-  pub every-other-grouping-costs-as-many : (sizes : List ℕ) → isGrouping n sizes ≡ true → fits n table limit sizes ≡ true → r .totals .bits ≤ cost n table sizes
+  pub every-other-grouping-costs-as-many : (sizes : List ℕ) → isGrouping n sizes ≡ true → fits n table limit sizes ≡ true → r .planned .bits ≤ cost n table sizes
   every-other-grouping-costs-as-many = cascades.compiled-least n table limit buffer r compiled
 
   -- The node count that Compile reports is the reduced diagram's records plus 1, and within the bound for every whole p and every l from 1 to n.

@@ -28,5 +28,5 @@ pub record CompileGiven (n : ℕ) (table : List ℤ) (limit : ℕ) (image cells 
   pub celled : cells′ ≡ leftBehind (compileAnswer n table limit (length image)) (λ r. flatMap cellRow (compileCells n table limit (length image))) cells
   pub measured : imageLength′ ≡ leftBehind (compileAnswer n table limit (length image)) (λ r. r .imageLength) imageLength
   pub noded : nodes′ ≡ leftBehind (compileAnswer n table limit (length image)) (λ r. r .nodes) nodes
-  pub counted : count′ ≡ leftBehind (compileAnswer n table limit (length image)) (λ r. r .totals .cells) count
-  pub summed : bits′ ≡ leftBehind (compileAnswer n table limit (length image)) (λ r. r .totals .bits) bits
+  pub counted : count′ ≡ leftBehind (compileAnswer n table limit (length image)) (λ r. r .planned .cells) count
+  pub summed : bits′ ≡ leftBehind (compileAnswer n table limit (length image)) (λ r. r .planned .bits) bits

@@ -31,14 +31,14 @@ pub record PlannedAs (n : ℕ) (table : List ℤ) (sizes : List ℕ) (cells : Li
   pub total : bits ≡ cost n table sizes
 
 -- The image of a grouping goes into a buffer of so many bytes, or 10.
-unfoldable pub placed : ℕ → List ℤ → List ℕ → ℕ → Answer (List ℕ)
-placed n table sizes room = unless (leb (length (imageFor n table sizes)) room) 10 (accepted sizes)
+unfoldable pub imagePlaced : ℕ → List ℤ → List ℕ → ℕ → Answer (List ℕ)
+imagePlaced n table sizes room = unless (leb (length (imageFor n table sizes)) room) 10 (accepted sizes)
 
 -- What is then answered, and left in the buffer.
 pub record Places (n : ℕ) (table : List ℤ) (sizes buffer : List ℕ) (answer : Compiled) (buffer′ : List ℕ) : Type 0 where
-  pub answered : outcome (answer .outcome) ≡ mapAnswer (report n table) (placed n table sizes (length buffer))
-  pub priced : answer .cells ≡ cellArray n table (placed n table sizes (length buffer))
-  pub left : buffer′ ≡ bufferAfter (placed n table sizes (length buffer)) (imageFor n table) buffer
+  pub answered : outcome (answer .outcome) ≡ mapAnswer (report n table) (imagePlaced n table sizes (length buffer))
+  pub priced : answer .cells ≡ cellArray n table (imagePlaced n table sizes (length buffer))
+  pub left : buffer′ ≡ bufferAfter (imagePlaced n table sizes (length buffer)) (imageFor n table) buffer
 
 -- The number of a refusal beside cells of 0.
 unfoldable pub notCompiled : ℕ → Compiled

@@ -17,7 +17,7 @@ use Rattle.cascade.specs.declared.Compiled.{Compiled}
 use Rattle.cascade.specs.declared.Outcome.the-variants.{Image}
 use Rattle.cascade.specs.declared.Planned.{Planned}
 use Rattle.cascade.specs.declared.Verdict.the-variants.{Refused}
-use Rattle.compiler.specs.Inner.Planned.{PlannedAs, placed, Places, notCompiled}
+use Rattle.compiler.specs.Inner.Planned.{PlannedAs, imagePlaced, Places, notCompiled}
 
 -- ---- no grouping
 
@@ -40,21 +40,21 @@ handed-on n table limit buffer k e = record { answered = rw e; priced = rw e; le
 module _ (n : ℕ) (table : List ℤ) (sizes buffer : List ℕ) where
   -- What is placed for the chosen grouping is compiled.
   pub placed-compiles : (limit : ℕ) (r : Compiled) (buffer′ : List ℕ) → plan n table limit ≡ accepted sizes → Places n table sizes buffer r buffer′ → Compiles n table limit buffer r buffer′
-  unfolding compile compileAnswer compileCells compileBuffer placed
+  unfolding compile compileAnswer compileCells compileBuffer imagePlaced
   placed-compiles limit r buffer′ e p = record { answered = rw e (p .answered); priced = rw e (p .priced); left = rw e (p .left) }
 
   -- A buffer that is too short is 10, and every byte stays.
   pub places-short : length buffer < length (imageFor n table sizes) → Places n table sizes buffer (notCompiled 10) buffer
-  unfolding placed cellArray entries notCompiled outcome
+  unfolding imagePlaced cellArray entries notCompiled outcome
   places-short l = let e = lt-leb (length (imageFor n table sizes)) (length buffer) l in record { answered = rw e; priced = rw e; left = rw e }
 
   -- Else the image stands in front.
   pub places-image : (cells : List Cell) (count bits imageLength nodes : ℕ) (buffer′ : List ℕ) → PlannedAs n table sizes cells count bits → length (imageFor n table sizes) ≤ length buffer → imageLength ≡ length (imageFor n table sizes) → nodes ≡ nodeCount n table → buffer′ ≡ overwritten buffer 0 (imageFor n table sizes) → Places n table sizes buffer (record { outcome = Image imageLength nodes count bits; cells = cells }) buffer′
-  unfolding placed cellArray entries outcome report totals cost
+  unfolding imagePlaced cellArray entries outcome report totals cost
   places-image cells count bits imageLength nodes buffer′ p room isLength isNodes written =
       let e = le-leb (length (imageFor n table sizes)) (length buffer) room in
       record {
-        answered = rw e (λ t. accepted (record { imageLength = isLength t; nodes = isNodes t; totals = record { cells = p .counted t; bits = p .total t } }));
+        answered = rw e (λ t. accepted (record { imageLength = isLength t; nodes = isNodes t; planned = record { cells = p .counted t; bits = p .total t } }));
         priced = rw e (p .listed);
         left = rw e (written ∙ overwritten-front buffer (imageFor n table sizes));
       }

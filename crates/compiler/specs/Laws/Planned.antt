@@ -28,7 +28,7 @@ use Rattle.planner.specs.Laws.Plans.{groups-back}
 use Rattle.planner.specs.Laws.Pricing.{words-most}
 use Rattle.writer.specs.Inner.Writing.{groups, CellsPlanned}
 use Rattle.compiler.specs.Inner.Lengths.{plannedBytes, plannedLength, SmallCell, SmallCells}
-use Rattle.compiler.specs.Inner.Planned.{PlannedAs, placed}
+use Rattle.compiler.specs.Inner.Planned.{PlannedAs}
 
 -- ---- planned cells
 

@@ -31,7 +31,7 @@ module _ (n : ℕ) (table : List ℤ) (limit : ℕ) (buffer : List ℕ) (r : Rep
       rw (q .1 .1, q .1 .0, length-append) (omega arith)
 
   -- Run on it, for every X.
-  pub image-run : (x : ℕ) → run (compiledImage r (compileBuffer n table limit buffer)) x ≡ unless (ltb x (2 ^ n)) 7 (accepted (record { value = getD table x (pos 0); words = r .totals .cells }))
+  pub image-run : (x : ℕ) → run (compiledImage r (compileBuffer n table limit buffer)) x ≡ unless (ltb x (2 ^ n)) 7 (accepted (record { value = getD table x (pos 0); words = r .planned .cells }))
   unfolding cardOf
   image-run x =
       yes-or-no (ltb x (2 ^ n))
@@ -50,7 +50,7 @@ module _ (n : ℕ) (table : List ℤ) (limit : ℕ) (buffer : List ℕ) (c : Com
   -- Compile gave an image.
   module _ (bytes nodes cells bits : ℕ) (given : c .outcome ≡ Image bytes nodes cells bits) where
     abbrev reported : Report
-    reported = record { imageLength = bytes; nodes = nodes; totals = record { cells = cells; bits = bits } }
+    reported = record { imageLength = bytes; nodes = nodes; planned = record { cells = cells; bits = bits } }
 
     known : compileAnswer n table limit (length buffer) ≡ accepted reported
     unfolding outcome
@@ -66,7 +66,7 @@ module _ (n : ℕ) (table : List ℤ) (limit : ℕ) (buffer : List ℕ) (c : Com
     pub run-gives : (x : ℕ) (answer : Ran) → ran answer ≡ run (take bytes buffer′) x → RunsTable n table limit buffer x answer buffer′
     unfolding runTable
     run-gives x answer e = record {
-      answered = e ∙ ap (λ image. run image x) front ∙ image-run n table limit buffer reported known x ∙ sym (ap (λ a. andThen a (λ r. unless (ltb x (2 ^ n)) 7 (accepted (record { value = getD table x (pos 0); words = r .totals .cells })))) known);
+      answered = e ∙ ap (λ image. run image x) front ∙ image-run n table limit buffer reported known x ∙ sym (ap (λ a. andThen a (λ r. unless (ltb x (2 ^ n)) 7 (accepted (record { value = getD table x (pos 0); words = r .planned .cells })))) known);
       left = compiles .left;
     }
 

@@ -39,7 +39,7 @@ module _ (n : ℕ) (table : List ℤ) (limit : ℕ) (image cells : List ℕ) (im
   pub compile-given : (bytes all number total : ℕ) (rows : List ℕ) → c .outcome ≡ Image bytes all number total → rows ≡ flatMap cellRow (c .cells) → CompileGiven n table limit image cells imageLength nodes count bits 0 image′ rows bytes all number total
   unfolding outcome
   compile-given bytes all number total rows e r =
-      let a : compileAnswer n table limit (length image) ≡ accepted (record { imageLength = bytes; nodes = all; totals = record { cells = number; bits = total } }) = sym (compiles .answered) ∙ ap outcome e in
+      let a : compileAnswer n table limit (length image) ≡ accepted (record { imageLength = bytes; nodes = all; planned = record { cells = number; bits = total } }) = sym (compiles .answered) ∙ ap outcome e in
       record {
         answered = rw a;
         imaged = compiles .left;

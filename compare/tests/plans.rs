@@ -1,7 +1,7 @@
 //! Plan and Compile: sizes, cells, bits, the image, and what is left of the
 //! buffers; then Run and Expand on what was compiled.
 
-use panstrait_compare::{answers, proved};
+use panstrait_compare::answers;
 use panstrait_reference as reference;
 use panstrait_reference::{Compiled, Planned, Ran, Refusal};
 use panstrait_samples::{cases, tables, Random, BYTE, FIGURE, GREATEST, LEAST, NUMBER};
@@ -249,71 +249,6 @@ fn several_refusals_at_once() {
         if first != 10 {
             let answer = same_plan(n, table, limit);
             assert_eq!(answer, Err(first), "n {n}: {:?}", case.refusals);
-        }
-    }
-}
-
-/// What is lent for numbers, before and after a call.
-const PLACE: usize = 0x5EED_1234_5678;
-
-/// The calls that rows of another length are tried on: a sound one, and one
-/// for each refusal.
-fn calls() -> Vec<(usize, Vec<i32>, usize)> {
-    vec![
-        (4, FIGURE.to_vec(), 4),
-        (13, vec![0; 8_192], 4),
-        (4, FIGURE[..15].to_vec(), 4),
-        (1, vec![0, GREATEST + 1], 4),
-        (4, FIGURE.to_vec(), 13),
-        (4, FIGURE.to_vec(), 1),
-    ]
-}
-
-/// Rows of another length are refused by 27 before anything else.
-#[test]
-fn rows_of_another_length_for_plan() {
-    for (n, table, limit) in calls() {
-        for (sizes, cells) in [
-            (0, 60),
-            (11, 60),
-            (13, 60),
-            (12, 0),
-            (12, 59),
-            (12, 61),
-            (60, 12),
-        ] {
-            let (mut sizes, mut cells) = (vec![PLACE; sizes], vec![PLACE; cells]);
-            let [mut count, mut bits] = [PLACE; 2];
-            let number = proved::plan(
-                n, &table, limit, &mut sizes, &mut cells, &mut count, &mut bits,
-            );
-            assert_eq!((number, count, bits), (27, PLACE, PLACE));
-            assert!(sizes.iter().chain(&cells).all(|&place| place == PLACE));
-        }
-    }
-}
-
-#[test]
-fn rows_of_another_length_for_compile() {
-    for (n, table, limit) in calls() {
-        for (cells, room) in [(0, 1_000), (12, 1_000), (59, 1_000), (61, 1_000), (59, 0)] {
-            let (mut image, mut cells) = (vec![BYTE; room], vec![PLACE; cells]);
-            let [mut length, mut nodes, mut count, mut bits] = [PLACE; 4];
-            let number = proved::compile(
-                n,
-                &table,
-                limit,
-                &mut image,
-                &mut cells,
-                &mut length,
-                &mut nodes,
-                &mut count,
-                &mut bits,
-            );
-            assert_eq!((number, length, nodes), (27, PLACE, PLACE));
-            assert_eq!((count, bits), (PLACE, PLACE));
-            assert!(cells.iter().all(|&place| place == PLACE));
-            assert!(image.iter().all(|&byte| byte == BYTE));
         }
     }
 }

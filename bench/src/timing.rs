@@ -55,7 +55,7 @@ pub fn line(what: &str, other: &str, mut proved: impl FnMut(), mut beside: impl 
     }
     let [proved, beside] = best.map(|time| time.as_secs_f64() * 1e6);
     println!(
-        "{what:<48} proved {proved:>9.1} us   {other:<24} {beside:>9.1} us   ratio {:>5.2}",
+        "{what:<60} proved {proved:>9.1} us   {other:<24} {beside:>9.1} us   ratio {:>5.2}",
         proved / beside
     );
 }

@@ -1,10 +1,10 @@
 /*
  * Edge-valued diagrams and LUT cascades for integer tables.
  *
- * A slice is a pointer to its first element and the number of its elements.
- * The pointer is never null, not even for an empty slice, and what a function
- * writes overlaps none of its other arguments. Nothing else is required of a
- * caller. A refused call leaves whatever it was lent as it was.
+ * A slice is a pointer to its first element and the number of its elements; an
+ * array of fixed size is the pointer alone. No pointer is null, not even for an
+ * empty slice, and what a function writes overlaps none of its other arguments.
+ * Nothing else is required of a caller. A refused call leaves whatever it was lent as it was.
  */
 #ifndef PANSTRAIT_H
 #define PANSTRAIT_H
@@ -72,6 +72,31 @@ uint8_t panstrait_run(const uint8_t *image, size_t image_len, size_t x,
  */
 uint8_t panstrait_expand(const uint8_t *image, size_t image_len,
                          int32_t *table, size_t table_len);
+
+/*
+ * Plan: 0, and of the grouping that costs least within the address limit sizes
+ * holds the groups from the top down, cells five numbers a cell (group,
+ * incoming class count, outgoing class count, weight width, memory bits), both
+ * 0 past the last cell, count the number of cells and bits the sum of their
+ * bits; else the refusal's number (1, 2, 3, 8 or 9), and all four are left as
+ * they were.
+ */
+uint8_t panstrait_plan(size_t n, const int32_t *table, size_t table_len,
+                       size_t limit,
+                       size_t sizes[12], size_t cells[60],
+                       size_t *count, size_t *bits);
+
+/*
+ * Compile: 0, and the first bytes of the image buffer hold the table's image,
+ * as many as stand behind length; behind nodes stands Build's node count, and
+ * cells, count and bits are Plan's; else the refusal's number (1, 2, 3, 8, 9
+ * or 10), and buffer, cells and the four numbers are left as they were.
+ */
+uint8_t panstrait_compile(size_t n, const int32_t *table, size_t table_len,
+                          size_t limit, uint8_t *image, size_t image_len,
+                          size_t cells[60],
+                          size_t *length, size_t *nodes,
+                          size_t *count, size_t *bits);
 
 #ifdef __cplusplus
 }

@@ -6,6 +6,7 @@
 mod classes;
 mod diagrams;
 mod evaluation;
+mod plans;
 mod same_method;
 mod tables;
 mod timing;
@@ -13,5 +14,6 @@ mod timing;
 fn main() {
     classes::measure();
     diagrams::measure();
+    plans::measure();
     evaluation::measure();
 }

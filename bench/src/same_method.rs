@@ -67,26 +67,56 @@ pub fn evaluate(image: &[u8], x: usize) -> i32 {
     value
 }
 
+fn check(table: &[i32]) {
+    let range = -8_388_608..=8_388_607;
+    assert!(table.iter().all(|value| range.contains(value)));
+}
+
+/// The classes of all cuts of a table, in rows for the largest one.
+struct Cuts {
+    classes: [usize; 8_191],
+    firsts: [usize; 8_191],
+    counts: [usize; 13],
+}
+
+impl Cuts {
+    const EMPTY: Cuts = Cuts {
+        classes: [0; 8_191],
+        firsts: [0; 8_191],
+        counts: [0; 13],
+    };
+
+    fn fill(&mut self, n: usize, table: &[i32]) {
+        let places = (2 << n) - 1;
+        let (classes, firsts) = (&mut self.classes[..places], &mut self.firsts[..places]);
+        class_cuts(n, table, classes, firsts, &mut self.counts[..=n]);
+    }
+
+    /// The classes of the blocks of a cut.
+    fn classes(&self, h: usize) -> &[usize] {
+        &self.classes[(1 << h) - 1..(2 << h) - 1]
+    }
+
+    /// The first blocks of the classes of a cut.
+    fn firsts(&self, h: usize) -> &[usize] {
+        &self.firsts[(1 << h) - 1..][..self.counts[h]]
+    }
+}
+
 /// Build for a table that passes its checks: the node count, and the records
 /// in the first numbers of the buffer.
 pub fn build(n: usize, table: &[i32], nodes: &mut [i32]) -> usize {
-    assert!(table
-        .iter()
-        .all(|value| (-8_388_608..=8_388_607).contains(value)));
-    let mut classes = [0; 8_191];
-    let mut firsts = [0; 8_191];
-    let mut counts = [0; 13];
-    let places = (2 << n) - 1;
-    let (classes, firsts) = (&mut classes[..places], &mut firsts[..places]);
-    class_cuts(n, table, classes, firsts, &mut counts[..=n]);
+    check(table);
+    let mut cuts = Cuts::EMPTY;
+    cuts.fill(n, table);
     let mut row = [0; 8_191];
     let mut made = 0;
     for h in (0..n).rev() {
         let (here, below) = ((1 << h) - 1, (2 << h) - 1);
         let half = 1 << (n - h - 1);
-        for class in 0..counts[h] {
-            let first = firsts[here + class];
-            let (low, high) = (classes[below + 2 * first], classes[below + 2 * first + 1]);
+        let halves = cuts.classes(h + 1);
+        for (class, &first) in cuts.firsts(h).iter().enumerate() {
+            let (low, high) = (halves[2 * first], halves[2 * first + 1]);
             let weight = table[(2 * first + 1) * half] - table[2 * first * half];
             row[here + class] = row[below + low];
             if low != high || weight != 0 {
@@ -99,4 +129,211 @@ pub fn build(n: usize, table: &[i32], nodes: &mut [i32]) -> usize {
         }
     }
     made + 1
+}
+
+#[derive(Clone, Copy, Default)]
+pub struct Cell {
+    pub group: usize,
+    pub incoming: usize,
+    pub outgoing: usize,
+    pub width: usize,
+    pub bits: usize,
+}
+
+/// Plan's answer: the cells from the top down, and their bits.
+#[derive(Clone, Copy, Default)]
+pub struct Plan {
+    pub cells: [Cell; 12],
+    pub count: usize,
+    pub bits: usize,
+}
+
+/// The least cost from a cut on, and the cell to take there.
+#[derive(Clone, Copy)]
+struct Choice {
+    cost: usize,
+    cell: Cell,
+}
+
+fn rail_width(count: usize) -> usize {
+    (usize::BITS - (count - 1).leading_zeros()) as usize
+}
+
+fn weight_width(least: i32, greatest: i32) -> usize {
+    let magnitude = (!least).max(greatest);
+    match (least, greatest) {
+        (0, 0) => 0,
+        _ => 33 - magnitude.leading_zeros() as usize,
+    }
+}
+
+/// The weights of a cell, by incoming class and then group value.
+fn weights<'a>(
+    n: usize,
+    h: usize,
+    group: usize,
+    table: &'a [i32],
+    cuts: &'a Cuts,
+) -> impl Iterator<Item = i32> + 'a {
+    let (size, part) = (1 << (n - h), 1 << (n - h - group));
+    cuts.firsts(h).iter().flat_map(move |&first| {
+        let block = &table[first * size..(first + 1) * size];
+        block
+            .iter()
+            .step_by(part)
+            .map(move |value| value - block[0])
+    })
+}
+
+/// A cell with its price, from its least and its greatest weight.
+fn cell(n: usize, h: usize, group: usize, table: &[i32], cuts: &Cuts) -> Cell {
+    let bounds = |(least, greatest): (i32, i32), w: i32| (least.min(w), greatest.max(w));
+    let (least, greatest) = weights(n, h, group, table, cuts).fold((0, 0), bounds);
+    let (incoming, outgoing) = (cuts.counts[h], cuts.counts[h + group]);
+    let width = weight_width(least, greatest);
+    Cell {
+        group,
+        incoming,
+        outgoing,
+        width,
+        bits: (rail_width(outgoing) + width) << (rail_width(incoming) + group),
+    }
+}
+
+/// The choice at a cut, from the widest cell that fits down.
+fn choose(
+    n: usize,
+    h: usize,
+    limit: usize,
+    table: &[i32],
+    cuts: &Cuts,
+    choices: &[Option<Choice>; 13],
+) -> Option<Choice> {
+    let widest = (n - h).min(limit.saturating_sub(rail_width(cuts.counts[h])));
+    let mut best: Option<Choice> = None;
+    for group in (1..=widest).rev() {
+        let cell = cell(n, h, group, table, cuts);
+        if let Some(below) = choices[h + group] {
+            let cost = cell.bits + below.cost;
+            if best.map_or(true, |best| cost < best.cost) {
+                best = Some(Choice { cost, cell });
+            }
+        }
+    }
+    best
+}
+
+/// Plan from the classes of all cuts: the choices from the bottom cut up, then
+/// their cells from the top down.
+fn plan_cuts(n: usize, table: &[i32], limit: usize, cuts: &Cuts) -> Option<Plan> {
+    let mut choices = [None; 13];
+    choices[n] = Some(Choice {
+        cost: 0,
+        cell: Cell::default(),
+    });
+    for h in (0..n).rev() {
+        choices[h] = choose(n, h, limit, table, cuts, &choices);
+    }
+    let mut plan = Plan {
+        bits: choices[0]?.cost,
+        ..Plan::default()
+    };
+    let mut h = 0;
+    while h < n {
+        let cell = choices[h]?.cell;
+        plan.cells[plan.count] = cell;
+        plan.count += 1;
+        h += cell.group;
+    }
+    Some(plan)
+}
+
+/// Plan for a table that passes its checks.
+pub fn plan(n: usize, table: &[i32], limit: usize) -> Option<Plan> {
+    check(table);
+    let mut cuts = Cuts::EMPTY;
+    cuts.fill(n, table);
+    plan_cuts(n, table, limit, &cuts)
+}
+
+/// What Compile answers beside the image and Plan's answer.
+#[derive(Clone, Copy, Default)]
+pub struct Compiled {
+    pub plan: Plan,
+    pub length: usize,
+    pub nodes: usize,
+}
+
+/// Compile for a table that passes its checks and has a grouping, with room
+/// for its image.
+pub fn compile(n: usize, table: &[i32], limit: usize, image: &mut [u8]) -> Option<Compiled> {
+    check(table);
+    let mut cuts = Cuts::EMPTY;
+    cuts.fill(n, table);
+    let plan = plan_cuts(n, table, limit, &cuts)?;
+    let length = image_length(&plan);
+    let image = image.get_mut(..length)?;
+    write_image(n, table, &cuts, &plan, image);
+    Some(Compiled {
+        plan,
+        length,
+        nodes: node_count(n, table, &cuts),
+    })
+}
+
+fn image_length(plan: &Plan) -> usize {
+    let cells = plan.cells[..plan.count].iter();
+    let words = cells.map(|cell| 1 + (cell.incoming << cell.group));
+    6 + 7 * words.sum::<usize>() + 5
+}
+
+fn write_image(n: usize, table: &[i32], cuts: &Cuts, plan: &Plan, image: &mut [u8]) {
+    image[..2].copy_from_slice(&[0x56, n as u8]);
+    image[2..6].copy_from_slice(&table[0].to_be_bytes());
+    let (mut at, mut h) = (6, 0);
+    for cell in &plan.cells[..plan.count] {
+        at += write_cell(n, h, cell, table, cuts, &mut image[at..]);
+        h += cell.group;
+    }
+    image[at] = 0x45;
+    image[at + 1..].copy_from_slice(&(plan.bits as u32).to_be_bytes());
+}
+
+/// A cell's command and words; answers their bytes.
+fn write_cell(
+    n: usize,
+    h: usize,
+    cell: &Cell,
+    table: &[i32],
+    cuts: &Cuts,
+    tail: &mut [u8],
+) -> usize {
+    tail[..2].copy_from_slice(&[0x43, cell.group as u8]);
+    tail[2..4].copy_from_slice(&(cell.incoming as u16).to_be_bytes());
+    tail[4..6].copy_from_slice(&(cell.outgoing as u16).to_be_bytes());
+    tail[6] = cell.width as u8;
+    let classes = cuts.classes(h + cell.group);
+    let sub_blocks = |&first: &usize| &classes[first << cell.group..(first + 1) << cell.group];
+    let classes = cuts.firsts(h).iter().flat_map(sub_blocks);
+    let words = classes.zip(weights(n, h, cell.group, table, cuts));
+    for (place, (&class, weight)) in tail[7..].chunks_exact_mut(7).zip(words) {
+        place[0] = 0x57;
+        place[1..3].copy_from_slice(&(class as u16).to_be_bytes());
+        place[3..].copy_from_slice(&weight.to_be_bytes());
+    }
+    7 * (1 + (cell.incoming << cell.group))
+}
+
+/// The terminal, and each class of each cut whose halves differ.
+fn node_count(n: usize, table: &[i32], cuts: &Cuts) -> usize {
+    let branches = |h: usize, first: usize| {
+        let half = 1 << (n - h - 1);
+        let (lower, upper) = table[2 * first * half..(2 * first + 2) * half].split_at(half);
+        lower != upper
+    };
+    let of_cut = |h: usize| {
+        let firsts = cuts.firsts(h).iter();
+        firsts.filter(|&&first| branches(h, first)).count()
+    };
+    1 + (0..n).map(of_cut).sum::<usize>()
 }

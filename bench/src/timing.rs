@@ -5,7 +5,9 @@ use std::mem;
 use std::ptr;
 use std::time::Duration;
 
+/// The fewest runs; short ones are repeated until they have used some time.
 const RUNS: usize = 30;
+const LEAST_TIME: Duration = Duration::from_millis(20);
 
 /// C's `struct timespec` and `CLOCK_THREAD_CPUTIME_ID` on 64-bit Linux.
 #[repr(C)]
@@ -49,13 +51,16 @@ fn time(work: &mut impl FnMut()) -> Duration {
 /// The runs alternate, and the best of each counts.
 pub fn line(what: &str, other: &str, mut proved: impl FnMut(), mut beside: impl FnMut()) {
     let mut best = [Duration::MAX; 2];
-    for _ in 0..RUNS {
+    let start = now();
+    let mut runs = 0;
+    while runs < RUNS || now() - start < LEAST_TIME {
         best[0] = best[0].min(time(&mut proved));
         best[1] = best[1].min(time(&mut beside));
+        runs += 1;
     }
     let [proved, beside] = best.map(|time| time.as_secs_f64() * 1e6);
     println!(
-        "{what:<48} proved {proved:>9.1} us   {other:<24} {beside:>9.1} us   ratio {:>5.2}",
+        "{what:<60} proved {proved:>9.1} us   {other:<24} {beside:>9.1} us   ratio {:>5.2}",
         proved / beside
     );
 }

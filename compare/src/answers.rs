@@ -49,14 +49,33 @@ pub fn expand(image: &[u8], table: &mut [i32]) -> Result<(), Refusal> {
 /// Numbers that stand for a cell: group, incoming, outgoing, width, bits.
 const CELL: usize = 5;
 
-/// The entries of an answer array; the places past the last one hold 0.
-fn entries(array: &[usize], count: usize) -> Vec<usize> {
-    let (entries, rest) = array.split_at(count);
-    assert!(rest.iter().all(|&place| place == 0), "{array:?}");
-    entries.to_vec()
+/// An array of fixed size as it is lent, with places beside it that no call
+/// may change.
+#[derive(Clone, Copy, PartialEq)]
+#[repr(C)]
+struct Lent<const PLACES: usize> {
+    before: [usize; 4],
+    array: [usize; PLACES],
+    after: [usize; 4],
 }
 
-fn cells(array: &[usize], count: usize) -> Vec<Cell> {
+impl<const PLACES: usize> Lent<PLACES> {
+    const PATTERN: Self = Lent {
+        before: [COUNT; 4],
+        array: [COUNT; PLACES],
+        after: [COUNT; 4],
+    };
+
+    /// The entries of an answer, so many; the places past the last one hold 0.
+    fn entries(&self, count: usize) -> &[usize] {
+        assert_eq!((self.before, self.after), ([COUNT; 4], [COUNT; 4]));
+        let (entries, rest) = self.array.split_at(count);
+        assert!(rest.iter().all(|&place| place == 0), "{:?}", self.array);
+        entries
+    }
+}
+
+fn cells(row: &Lent<60>, count: usize) -> Vec<Cell> {
     let cell = |numbers: &[usize]| Cell {
         group: numbers[0],
         incoming: numbers[1],
@@ -64,17 +83,24 @@ fn cells(array: &[usize], count: usize) -> Vec<Cell> {
         width: numbers[3],
         bits: numbers[4],
     };
-    let numbers = entries(array, CELL * count);
-    numbers.chunks(CELL).map(cell).collect()
+    row.entries(CELL * count).chunks(CELL).map(cell).collect()
 }
 
 pub fn plan(n: usize, table: &[i32], limit: usize) -> Result<Planned, Refusal> {
-    let pattern = ([COUNT; 12], [COUNT; 12 * CELL], COUNT, COUNT);
+    let pattern = (Lent::PATTERN, Lent::PATTERN, COUNT, COUNT);
     let (mut sizes, mut row, mut count, mut bits) = pattern;
-    let number = proved::plan(n, table, limit, &mut sizes, &mut row, &mut count, &mut bits);
+    let number = proved::plan(
+        n,
+        table,
+        limit,
+        &mut sizes.array,
+        &mut row.array,
+        &mut count,
+        &mut bits,
+    );
     answer(number, (), (sizes, row, count, bits), pattern)?;
     Ok(Planned {
-        sizes: entries(&sizes, count),
+        sizes: sizes.entries(count).to_vec(),
         cells: cells(&row, count),
         bits,
     })
@@ -86,14 +112,14 @@ pub fn compile(
     limit: usize,
     image: &mut [u8],
 ) -> Result<Compiled, Refusal> {
-    let pattern = ([COUNT; 12 * CELL], COUNT, COUNT, COUNT, COUNT);
+    let pattern = (Lent::PATTERN, COUNT, COUNT, COUNT, COUNT);
     let (mut row, mut length, mut nodes, mut count, mut bits) = pattern;
     let number = proved::compile(
         n,
         table,
         limit,
         image,
-        &mut row,
+        &mut row.array,
         &mut length,
         &mut nodes,
         &mut count,

@@ -52,10 +52,8 @@ mod c {
             table: *const i32,
             table_len: usize,
             limit: usize,
-            sizes: *mut usize,
-            sizes_len: usize,
-            cells: *mut usize,
-            cells_len: usize,
+            sizes: *mut [usize; 12],
+            cells: *mut [usize; 60],
             count: *mut usize,
             bits: *mut usize,
         ) -> u8;
@@ -66,8 +64,7 @@ mod c {
             limit: usize,
             image: *mut u8,
             image_len: usize,
-            cells: *mut usize,
-            cells_len: usize,
+            cells: *mut [usize; 60],
             length: *mut usize,
             nodes: *mut usize,
             count: *mut usize,
@@ -144,13 +141,13 @@ pub fn expand(image: &[u8], table: &mut [i32]) -> u8 {
 }
 
 /// Plan: 0 with sizes, cells, their count and the bits, or the refusal's
-/// number, or 27 where a row has not its length.
+/// number.
 pub fn plan(
     n: usize,
     table: &[i32],
     limit: usize,
-    sizes: &mut [usize],
-    cells: &mut [usize],
+    sizes: &mut [usize; 12],
+    cells: &mut [usize; 60],
     count: &mut usize,
     bits: &mut usize,
 ) -> u8 {
@@ -160,10 +157,8 @@ pub fn plan(
             table.as_ptr(),
             table.len(),
             limit,
-            sizes.as_mut_ptr(),
-            sizes.len(),
-            cells.as_mut_ptr(),
-            cells.len(),
+            sizes,
+            cells,
             count,
             bits,
         )
@@ -171,14 +166,14 @@ pub fn plan(
 }
 
 /// Compile: 0 with the image, cells, length, node count, cell count and bits,
-/// or the refusal's number, or 27 where the row has not its length.
+/// or the refusal's number.
 #[allow(clippy::too_many_arguments)]
 pub fn compile(
     n: usize,
     table: &[i32],
     limit: usize,
     image: &mut [u8],
-    cells: &mut [usize],
+    cells: &mut [usize; 60],
     length: &mut usize,
     nodes: &mut usize,
     count: &mut usize,
@@ -192,8 +187,7 @@ pub fn compile(
             limit,
             image.as_mut_ptr(),
             image.len(),
-            cells.as_mut_ptr(),
-            cells.len(),
+            cells,
             length,
             nodes,
             count,

@@ -1,10 +1,10 @@
 //! Plan and Compile: sizes, cells, bits, the image, and what is left of the
 //! buffers; then Run and Expand on what was compiled.
 
-use panstrait_compare::{answers, proved};
+use panstrait_compare::answers;
 use panstrait_reference as reference;
-use panstrait_reference::{Compiled, Planned, Ran, Refusal};
-use panstrait_samples::{cases, tables, Random, BYTE, FIGURE, GREATEST, LEAST, NUMBER};
+use panstrait_reference::{Cell, Compiled, Planned, Ran, Refusal};
+use panstrait_samples::{cases, tables, Random, BYTE, FIGURE, GREATEST, LEAST, NORM, NUMBER, ROOT};
 
 /// Both programs' plans.
 fn same_plan(n: usize, table: &[i32], limit: usize) -> Result<Planned, Refusal> {
@@ -109,7 +109,7 @@ fn tables_that_are_hard_to_tell_apart() {
 fn random_tables() {
     let mut random = Random(43);
     for n in 1..=12 {
-        for _ in 0..[60, 20, 6][n / 5] {
+        for _ in 0..[300, 80, 24][n / 5] {
             let table = tables::random(n, &mut random);
             check_limits(n, &table, &mut random);
         }
@@ -133,29 +133,63 @@ fn all_small_tables() {
 #[test]
 fn tables_with_ties() {
     let mut random = Random(45);
-    let planned = same_plan(4, &cases::TIE, 4).expect("a grouping fits");
-    assert_eq!((planned.sizes, planned.bits), (vec![2, 1, 1], 40));
     for _ in 0..400 {
         let n = 3 + random.below(4);
         let table = tables::of(n, |_| random.between(-2, 1));
-        check(n, &table, 12, &mut random);
+        check_limits(n, &table, &mut random);
+    }
+}
+
+fn fields(cell: &Cell) -> [usize; 5] {
+    [
+        cell.group,
+        cell.incoming,
+        cell.outgoing,
+        cell.width,
+        cell.bits,
+    ]
+}
+
+/// The paper's checked values, the tie at 40 bits, more than 256 classes at a
+/// chosen cut, a long image.
+#[test]
+fn cells_worked_out_by_hand() {
+    for case in cases::chosen_plans() {
+        let (n, table, limit) = (case.n, &case.table, case.limit);
+        let planned = same_plan(n, table, limit).expect("a grouping fits");
+        assert_eq!((planned.sizes, planned.bits), (case.sizes(), case.bits()));
+        let cells: Vec<[usize; 5]> = planned.cells.iter().map(fields).collect();
+        assert_eq!(cells, case.cells);
+        let (compiled, image) = same_compile(n, table, limit, 65_536).expect("a grouping fits");
+        assert_eq!(compiled.length, case.length());
+        assert_eq!(compiled.nodes, case.nodes());
+        assert!(image == case.image(), "{cells:?}");
+        check_limits(n, table, &mut Random(46));
     }
 }
 
 #[test]
-fn more_than_256_classes() {
-    let table = tables::many_classes();
-    let planned = same_plan(12, &table, 12).expect("one wide cell fits");
-    assert_eq!(planned.cells[1].outgoing, 300);
-    check_limits(12, &table, &mut Random(46));
+fn worked_tables() {
+    let mut random = Random(48);
+    check_limits(4, &FIGURE, &mut random);
+    check_limits(4, &NORM, &mut random);
+    check_limits(3, &ROOT, &mut random);
 }
 
+/// With every list of sizes at 0 bits, each group is as wide as it can be.
 #[test]
-fn a_long_image() {
-    let table = tables::long_image();
-    let (compiled, _) = same_compile(12, &table, 12, 65_536).expect("one wide cell fits");
-    assert_eq!(compiled.length, 35_865);
-    check_limits(12, &table, &mut Random(48));
+fn the_widest_groups_of_constants() {
+    for n in 1..=12 {
+        for limit in 1..=12 {
+            let planned = same_plan(n, &vec![-1; 1 << n], limit).expect("a grouping fits");
+            let mut left = n;
+            for &group in &planned.sizes {
+                assert_eq!(group, left.min(limit));
+                left -= group;
+            }
+            assert_eq!((left, planned.bits), (0, 0));
+        }
+    }
 }
 
 #[test]
@@ -178,7 +212,9 @@ fn variables_out_of_range() {
     let wrong = [0, 13, 14, 31, 32, 63, 64, 65, 1 << 32, usize::MAX];
     for n in wrong.into_iter().chain(cases::WRAPPED_3) {
         for values in [0, 1, 2, 7, 8, 9, 4_096, 8_192] {
-            refused(n, &vec![0; values], 12, 1);
+            for limit in [0, 3, 12, 13] {
+                refused(n, &vec![0; values], limit, 1);
+            }
         }
     }
 }
@@ -188,7 +224,9 @@ fn wrong_table_lengths() {
     for n in 1..=12 {
         let size = 1 << n;
         for wrong in [0, 1, size - 1, size + 1, 2 * size] {
-            refused(n, &vec![0; wrong], 12, 2);
+            for limit in [0, 3, 12, 13] {
+                refused(n, &vec![0; wrong], limit, 2);
+            }
         }
     }
 }
@@ -199,7 +237,9 @@ fn values_out_of_range() {
         for place in [0, 1, (1 << n) / 2, (1 << n) - 1] {
             for value in [LEAST - 1, GREATEST + 1, i32::MIN, i32::MAX] {
                 let table = tables::of(n, |x| if x == place { value } else { 0 });
-                refused(n, &table, 12, 3);
+                for limit in [0, 3, 12, 13] {
+                    refused(n, &table, limit, 3);
+                }
             }
         }
     }
@@ -223,7 +263,10 @@ fn limits_out_of_range() {
     ];
     for limit in wrong {
         refused(4, &FIGURE, limit, 8);
-        refused(12, &vec![7; 4_096], limit, 8);
+        for n in 1..=12 {
+            refused(n, &vec![7; 1 << n], limit, 8);
+            refused(n, &tables::all_different(n), limit, 8);
+        }
     }
 }
 
@@ -249,71 +292,6 @@ fn several_refusals_at_once() {
         if first != 10 {
             let answer = same_plan(n, table, limit);
             assert_eq!(answer, Err(first), "n {n}: {:?}", case.refusals);
-        }
-    }
-}
-
-/// What is lent for numbers, before and after a call.
-const PLACE: usize = 0x5EED_1234_5678;
-
-/// The calls that rows of another length are tried on: a sound one, and one
-/// for each refusal.
-fn calls() -> Vec<(usize, Vec<i32>, usize)> {
-    vec![
-        (4, FIGURE.to_vec(), 4),
-        (13, vec![0; 8_192], 4),
-        (4, FIGURE[..15].to_vec(), 4),
-        (1, vec![0, GREATEST + 1], 4),
-        (4, FIGURE.to_vec(), 13),
-        (4, FIGURE.to_vec(), 1),
-    ]
-}
-
-/// Rows of another length are refused by 27 before anything else.
-#[test]
-fn rows_of_another_length_for_plan() {
-    for (n, table, limit) in calls() {
-        for (sizes, cells) in [
-            (0, 60),
-            (11, 60),
-            (13, 60),
-            (12, 0),
-            (12, 59),
-            (12, 61),
-            (60, 12),
-        ] {
-            let (mut sizes, mut cells) = (vec![PLACE; sizes], vec![PLACE; cells]);
-            let [mut count, mut bits] = [PLACE; 2];
-            let number = proved::plan(
-                n, &table, limit, &mut sizes, &mut cells, &mut count, &mut bits,
-            );
-            assert_eq!((number, count, bits), (27, PLACE, PLACE));
-            assert!(sizes.iter().chain(&cells).all(|&place| place == PLACE));
-        }
-    }
-}
-
-#[test]
-fn rows_of_another_length_for_compile() {
-    for (n, table, limit) in calls() {
-        for (cells, room) in [(0, 1_000), (12, 1_000), (59, 1_000), (61, 1_000), (59, 0)] {
-            let (mut image, mut cells) = (vec![BYTE; room], vec![PLACE; cells]);
-            let [mut length, mut nodes, mut count, mut bits] = [PLACE; 4];
-            let number = proved::compile(
-                n,
-                &table,
-                limit,
-                &mut image,
-                &mut cells,
-                &mut length,
-                &mut nodes,
-                &mut count,
-                &mut bits,
-            );
-            assert_eq!((number, length, nodes), (27, PLACE, PLACE));
-            assert_eq!((count, bits), (PLACE, PLACE));
-            assert!(cells.iter().all(|&place| place == PLACE));
-            assert!(image.iter().all(|&byte| byte == BYTE));
         }
     }
 }

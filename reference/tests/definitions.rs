@@ -165,7 +165,6 @@ fn trap_blocks_share_by_differences() {
 #[test]
 fn trap_width_of_4() {
     assert_eq!(weight_width(&[4]), 4);
-    assert_eq!(plan(1, &[0, 4], 1).unwrap().cells[0].width, 4);
 }
 
 #[test]
@@ -175,41 +174,24 @@ fn a_tie_of_a_wide_first_group_and_fewer_cells() {
     let planned = plan(4, &cases::TIE, 4).unwrap();
     assert_eq!((planned.bits, two_cells), (40, 40));
     assert_eq!(planned.sizes, [2, 1, 1]);
-    let expected = [[2, 1, 3, 4, 24], [1, 3, 2, 0, 8], [1, 2, 1, 2, 8]];
-    assert_eq!(fields(&planned.cells), expected);
 }
 
 #[test]
-fn more_than_256_classes_at_a_chosen_cut() {
-    let table = tables::many_classes();
-    let expected = [
-        [5, 1, 32, 24, 32 * (5 + 24)],
-        [4, 32, 300, 19, 512 * (9 + 19)],
-        [3, 300, 1, 2, 4_096 * 2],
-    ];
-    let (answer, image) = compiled(12, &table, 12).unwrap();
-    assert_eq!(fields(&answer.cells), expected);
-    assert_eq!(image, Cascade::new(12, &table).draft(&[5, 4, 3]).bytes());
-}
-
-/// As long an image as a chosen grouping is known to have.
-#[test]
-fn a_long_image() {
-    let (answer, _) = compiled(12, &tables::long_image(), 12).unwrap();
-    let expected = [
-        [10, 1, 1_024, 25, 1_024 * (10 + 25)],
-        [2, 1_024, 1, 4, 4_096 * 4],
-    ];
-    assert_eq!(fields(&answer.cells), expected);
-    assert_eq!(answer.length, 6 + 7 * (1 + 1_024) + 7 * (1 + 4_096) + 5);
+fn cells_worked_out_by_hand() {
+    for case in cases::chosen_plans() {
+        let planned = plan(case.n, &case.table, case.limit).unwrap();
+        assert_eq!(planned.sizes, case.sizes());
+        assert_eq!(fields(&planned.cells), case.cells);
+        assert_eq!(planned.bits, case.bits());
+        let (answer, image) = compiled(case.n, &case.table, case.limit).unwrap();
+        assert_eq!((answer.cells, answer.bits), (planned.cells, planned.bits));
+        assert_eq!((answer.length, answer.nodes), (case.length(), case.nodes()));
+        assert!(image == case.image(), "{:?}", case.cells);
+    }
 }
 
 #[test]
 fn equal_costs_take_the_wider_first_group() {
-    // One cell costs 4 * 3, two cost 2 * (1 + 1) + 4 * 2.
-    let table = [0, 1, -1, -3];
-    let planned = plan(2, &table, 2).unwrap();
-    assert_eq!(fields(&planned.cells), [[2, 1, 1, 3, 12]]);
     for n in 1..=12 {
         for limit in 1..=12 {
             let planned = plan(n, &vec![-1; 1 << n], limit).unwrap();

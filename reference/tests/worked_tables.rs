@@ -33,9 +33,6 @@ fn segment_index_cascade() {
     assert_eq!(planned.bits, 28 + 3 * 4);
 }
 
-/// Document 002, table 1(c), over Z = 4X + Y.
-const NORM: [i32; 16] = [0, 1, 2, 3, 1, 1, 2, 3, 2, 2, 3, 4, 3, 3, 4, 4];
-
 /// Document 002, table 1(a): the norm in quarters, rounded.
 #[test]
 fn norm_values() {
@@ -141,19 +138,7 @@ fn weighted_sum() {
         let v = variable as i32;
         assert_eq!(record, [v, v, v, v + 1]);
     }
-    let expected = [
-        [1, 1, 1, 4, 8],
-        [1, 1, 1, 4, 8],
-        [1, 1, 1, 3, 6],
-        [1, 1, 1, 3, 6],
-        [1, 1, 1, 2, 4],
-    ];
-    assert_eq!(fields(&plan(5, &table, 1).unwrap().cells), expected);
-    assert_eq!(fields(&plan(5, &table, 12).unwrap().cells), expected);
 }
-
-/// Document 001, table 2(c), as far as it is printed.
-const ROOT: [i32; 8] = [0, 8, 11, 14, 16, 18, 20, 21];
 
 /// Document 001, table 1: 3 bits of exponent and 4 of mantissa, no sign.
 fn floating_point(code: i32) -> f64 {

@@ -17,6 +17,12 @@ pub const MOST_WEIGHT: i32 = 16_777_215;
 /// Document 000, figure 1.
 pub const FIGURE: [i32; 16] = [0, 0, 0, 0, 1, 1, 2, 3, 4, 4, 5, 6, 7, 7, 7, 7];
 
+/// Document 002, table 1(c), over Z = 4X + Y.
+pub const NORM: [i32; 16] = [0, 1, 2, 3, 1, 1, 2, 3, 2, 2, 3, 4, 3, 3, 4, 4];
+
+/// Document 001, table 2(c), as far as it is printed.
+pub const ROOT: [i32; 8] = [0, 8, 11, 14, 16, 18, 20, 21];
+
 /// What buffers are filled with before a call.
 pub const NUMBER: i32 = 0x5EED_1234;
 pub const BYTE: u8 = 0xC7;

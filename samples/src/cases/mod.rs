@@ -8,7 +8,7 @@ mod refused;
 
 pub use lists::{lists, List};
 pub use passing::{passing_images, PassingImage};
-pub use plans::{refused_plans, RefusedPlan};
+pub use plans::{chosen_plans, refused_plans, ChosenPlan, RefusedPlan};
 pub use refused::{refused_images, RefusedImage};
 
 use crate::{tables, GREATEST, LEAST, MOST_WEIGHT};

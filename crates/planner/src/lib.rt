@@ -8,6 +8,12 @@ ghost use Rattle.cascade.specs.Plan.{Plans};
 ghost use Rattle.planner.specs.Inner.Rows.{RowsRoom, RowsLeft};
 use cascade::Planned;
 
+// The least and the greatest of the weights so far, and of 0.
+struct Extremes {
+    least: i32,
+    greatest: i32,
+}
+
 // Plan, with the classes of all cuts left in the lent rows.
 pub fn plan_in(
     n: usize,

@@ -1,6 +1,6 @@
 // The price of a cell: its memory bits, from its least and its greatest weight.
 ghost use mathlib.Core.Path.{_≡_};
-ghost use Prim.Native.Nat.{_+_, _*_, _^_};
+ghost use Prim.Native.Nat.{_+_, _*_, _^_, _<_};
 ghost use lib.ListN.{getD};
 ghost use lib.Dec.{leb};
 ghost use Rattle.numbers.specs.Widths.{railWidth};
@@ -9,22 +9,54 @@ ghost use Rattle.blocks.specs.Inner.Layout.{allCounts};
 ghost use Rattle.cascade.specs.Cascade.{cellOf};
 ghost use Rattle.cascade.specs.Inner.Choices.{cellPrice};
 ghost use Rattle.planner.specs.Inner.Ready.{CellReady, AddressReady};
+ghost use Rattle.planner.specs.Inner.Extremes.{extremesOf};
+use crate::Extremes;
 
-// The weight width of the cell from cut h that takes g variables and has so many words.
-fn cell_width(n: usize, h: usize, g: usize, count: usize, table: &[i32], firsts: &[usize]) -> usize
-    requires { ⌜ CellReady n h g (now table) (now firsts) × (count ≡ classCount n (now table) h * 2 ^ g) ⌝ }
-    ensures { λ r. ⌜ r ≡ cellOf n (now (table .entry)) h g .width ⌝ }
+// The extremes of the weights so far and of those of one class more, whose words stand for the parts of its first block.
+fn class_extremes(
+    n: usize,
+    h: usize,
+    g: usize,
+    class: usize,
+    table: &[i32],
+    firsts: &[usize],
+    gathered: Extremes,
+) -> Extremes
+    requires { ⌜ CellReady n h g (now table) (now firsts) × (class < classCount n (now table) h) ⌝ }
+    requires { ⌜ gathered ≡ extremesOf n (now table) h g (class * 2 ^ g) ⌝ }
+    ensures { λ r. ⌜ r ≡ extremesOf n (now (table .entry)) h g (class * 2 ^ g + 2 ^ g) ⌝ }
 {
-    let mut least = 0;
-    let mut greatest = 0;
-    let mut k = 0;
-    while k < count {
-        let weight = cascade::words::word_weight(n, h, g, k, table, firsts);
+    let values = numbers::power(g);
+    let step = numbers::power(n - (h + g));
+    let start = blocks::in_cut(firsts, h, class) * numbers::power(n - h);
+    let from = table[start];
+    let mut least = gathered.least;
+    let mut greatest = gathered.greatest;
+    let mut v = 0;
+    while v < values {
+        let weight = table[start + v * step] - from;
         least = numbers::lesser_of(least, weight);
         greatest = numbers::greater_of(greatest, weight);
-        k += 1;
+        v += 1;
     }
-    numbers::weight_width(least, greatest)
+    Extremes { least, greatest }
+}
+
+// The weight width of the cell from cut h that takes g variables and has so many classes.
+fn cell_width(n: usize, h: usize, g: usize, count: usize, table: &[i32], firsts: &[usize]) -> usize
+    requires { ⌜ CellReady n h g (now table) (now firsts) × (count ≡ classCount n (now table) h) ⌝ }
+    ensures { λ r. ⌜ r ≡ cellOf n (now (table .entry)) h g .width ⌝ }
+{
+    let mut gathered = Extremes {
+        least: 0,
+        greatest: 0,
+    };
+    let mut class = 0;
+    while class < count {
+        gathered = class_extremes(n, h, g, class, table, firsts, gathered);
+        class += 1;
+    }
+    numbers::weight_width(gathered.least, gathered.greatest)
 }
 
 // The memory bits of the cell from cut h that takes g variables.
@@ -41,7 +73,7 @@ pub(crate) fn cell_price(
 {
     let incoming = counts[h];
     let outgoing = counts[h + g];
-    let width = cell_width(n, h, g, incoming * (1 << g), table, firsts);
+    let width = cell_width(n, h, g, incoming, table, firsts);
     image::places::cell_bits(incoming, g, outgoing, width)
 }
 

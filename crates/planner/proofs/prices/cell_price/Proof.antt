@@ -1,14 +1,12 @@
 -- `planner::prices::cell_price` meets its contract. Assumes nothing.
-use Prim.Native.Nat.{_+_, _*_, _%_, _^_}
-use mathlib.Core.Path.{_≡_, _∙_, ap, ap₂}
+use Prim.Native.Nat.{_+_}
+use mathlib.Core.Path.{_∙_, ap, ap₂}
 use native.Mathlib.Omega.{arith}
-use lib.ListN.{getD}
 use mir.Facts.{fits-of-lt}
 use borrow.Author.Needs.{needs}
-use Rattle.numbers.specs.Laws.Pieces.{shifted-one}
 use Rattle.numbers.specs.Widths.{cellBits}
 use Rattle.blocks.specs.Classes.{classCount}
-use Rattle.planner.specs.Laws.Pricing.{cut-small, group-small, end-small, entering-place, leaving-place, entering, leaving, words-most, price-fits, price-is}
+use Rattle.planner.specs.Laws.Pricing.{cut-small, end-small, entering-place, leaving-place, entering, leaving, price-fits, price-is}
 use Rattle.planner.proofs.prices.cell_price.Statement.{statement}
 use Rattle.planner.proofs.prices.cell_price.Tie as tie
 
@@ -27,18 +25,8 @@ mul-outgoing c = fits-of-lt (let s = end-small (c .before .before .before .pre .
 shared-slice-read-outgoing : tie.Need-shared-slice-read-outgoing
 shared-slice-read-outgoing c = let p = c .before .before .before .before .pre in leaving-place (p .0) (p .1)
 
-shl-cell-width : tie.Need-shl-cell-width
-shl-cell-width c = group-small (c .before .before .before .before .pre .0)
-
--- The cell's words.
-is-count : (s : tie.Start) → getD (s .args .counts .now) (s .args .h) 0 * (1 * 2 ^ s .args .g % 18446744073709551616) ≡ classCount (s .args .n) (s .args .table .now) (s .args .h) * 2 ^ s .args .g
-is-count s = ap₂ _*_ (entering (s .pre .0) (s .pre .1)) (shifted-one (s .args .g) (group-small (s .pre .0)))
-
-mul-cell-width : tie.Need-mul-cell-width
-mul-cell-width c = let s = c .before .before .before .before in rw (is-count s) (fits-of-lt (let m = words-most (s .pre .0) in omega arith))
-
 cell-width-requires : tie.Need-cell-width-requires
-cell-width-requires c κs = let s = c .before .before .before .before in (s .pre .0, is-count s)
+cell-width-requires c κs = let s = c .before .before .before .before in (s .pre .0, entering (s .pre .0) (s .pre .1))
 
 cell-bits-requires : tie.Need-cell-bits-requires
 cell-bits-requires c κs = let s = c .before .before .before .before .before in rw (entering (s .pre .0) (s .pre .1), leaving (s .pre .0) (s .pre .1), c .cell-width .ensures) (price-fits (s .pre .0))
@@ -60,8 +48,6 @@ cell-price-spec =
     add-outgoing
     mul-outgoing
     shared-slice-read-outgoing
-    shl-cell-width
-    mul-cell-width
     cell-width-requires
     cell-bits-requires
     returns)

@@ -1,3 +1,5 @@
 -- The paper's "Listing program".
 pub mod Listing
 pub mod Text
+pub mod Reading
+pub mod Laws

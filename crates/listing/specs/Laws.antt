@@ -1,2 +1,3 @@
 -- Laws about the definitions of this crate, which proofs cite.
 pub mod Decimals
+pub mod Listed

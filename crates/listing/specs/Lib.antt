@@ -2,4 +2,5 @@
 pub mod Listing
 pub mod Text
 pub mod Reading
+pub mod Theorems
 pub mod Laws

@@ -5,8 +5,8 @@ use mathlib.Core.Bool.{Bool, true}
 use mathlib.Core.List.{List, [], _∷_, _++_}
 use native.Mathlib.Omega.{arith}
 use lib.ListN.{length, length-append}
-use lib.Dec.{leb, ltb, eqb}
-use lib.IntN.{ℤ, pos, negsuc, negℤ, natAbs}
+use lib.Dec.{leb, ltb}
+use lib.IntN.{ℤ, pos, negsuc, negℤ}
 use borrow.Author.Tests.{lt-ltb, le-ltb, ltb-true, ltb-false, le-leb, leb-true, ne-eqb}
 use Rattle.numbers.specs.Lists.{every}
 use Rattle.numbers.specs.Laws.Bools.{yes-or-no, both, and-both}
@@ -31,8 +31,8 @@ enough-digits (suc count) (suc other) number left right =
     yes-or-no (ltb number 10)
     (λ small. let s = ltb-true number 10 small in one-digit count number s ∙ sym (one-digit other number s))
     (λ large.
-        let l = ltb-false number 10 large in
-        last-digit count number l ∙ ap (λ front. front ++ (48 + number % 10) ∷ []) (enough-digits count other (number / 10) (omega arith) (omega arith)) ∙ sym (last-digit other number l))
+    let l = ltb-false number 10 large in
+    last-digit count number l ∙ ap (λ front. front ++ (48 + number % 10) ∷ []) (enough-digits count other (number / 10) (omega arith) (omega arith)) ∙ sym (last-digit other number l))
 enough-digits zero other number left right = absurd (omega arith)
 enough-digits (suc count) zero number left right = absurd (omega arith)
 
@@ -136,5 +136,5 @@ decimal-length (suc k) number l =
     yes-or-no (ltb number 10)
     (λ small. rw (decimal-small number (ltb-true number 10 small)) (omega arith))
     (λ large.
-        let before = decimal-length k (number / 10) (omega arith) in
-        rw (decimal-step number (ltb-false number 10 large), length-append) (omega arith))
+    let before = decimal-length k (number / 10) (omega arith) in
+    rw (decimal-step number (ltb-false number 10 large), length-append) (omega arith))

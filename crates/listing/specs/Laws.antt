@@ -1,3 +1,4 @@
 -- Laws about the definitions of this crate, which proofs cite.
 pub mod Decimals
+pub mod Lengths
 pub mod Listed

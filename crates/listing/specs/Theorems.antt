@@ -21,7 +21,8 @@ use Rattle.listing.specs.Listing.{tableOf, listed, tableText, answerText
 use Rattle.listing.specs.Reading.{isDigit, readDecimal}
 use Rattle.listing.specs.Text.{ascii, decimalDigits, decimal, fields, line}
 use Rattle.listing.specs.Laws.Decimals.{decimal-back, decimal-negative, digits-alone, decimal-length}
-use Rattle.listing.specs.Laws.Listed.{listed-under-two, listed-outside, listed-miscounted, listed-counted, listed-too-long}
+use Rattle.listing.specs.Laws.Lengths.{listing-length}
+use Rattle.listing.specs.Laws.Listed.{listed-under-two, listed-outside, listed-miscounted, listed-counted, listed-refused, listed-too-long}
 
 -- The bytes of the line `refused` with a number of one digit.
 abbrev refusedBy : ℕ → List ℕ
@@ -100,7 +101,15 @@ number-in-digits number = (digits-alone number, rw add-one (decimal-negative num
 pub number-no-longer : (k number : ℕ) → number < 10 ^ (k + 1) → length (decimal (pos number)) ≤ k + 1
 number-no-longer k number small = rw add-one (decimal-length k number (rw add-one at small))
 
--- ---- the longest input
+-- ---- lengths
+
+-- Every text has at most 225,943 bytes.
+pub text-fits : (input : List ℕ) → length (listing input) ≤ 225943
+text-fits = listing-length
+
+-- The image always has room: 10 never occurs.
+pub never-ten : (input : List ℕ) → listed input ≡ refused 10 → ⊥
+never-ten input e = let nine = listed-refused input 10 e in omega arith
 
 -- Bytes beyond one more than those of the longest admitted input do not matter.
 pub bytes-beyond : (input : List ℕ) → listing (take (3 + 4 * 2 ^ 12) input) ≡ listing input

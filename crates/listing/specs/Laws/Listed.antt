@@ -1,17 +1,18 @@
 -- What is listed: the image always has room, so the answer is Plan's after the checks on the input's bytes.
 use Prim.Native.Nat.{ℕ, _+_, _-_, _*_, _/_, _^_, _≤_, _<_}
 use mathlib.Core.Path.{_≡_, refl, sym, _∙_, ap}
-use mathlib.Core.Bool.{true, false}
+use mathlib.Core.Bool.{Bool, true, false}
 use mathlib.Core.List.{List}
 use native.Mathlib.Omega.{arith}
 use lib.ListN.{length, getD, length-map}
 use lib.Dec.{leb, eqb}
 use lib.Pow.{pow-mono}
 use lib.IntN.{ℤ}
-use borrow.Author.Tests.{le-leb, lt-leb, eq-eqb, ne-eqb}
+use borrow.Author.Tests.{le-leb, lt-leb, eqb-true, eq-eqb, ne-eqb}
 use Rattle.numbers.specs.Answers.{Answer, accepted, refused, unless, andThen}
 use Rattle.numbers.specs.Lists.{numbersFrom, every}
 use Rattle.numbers.specs.Ranges.{isVariables, isLimit, isValue}
+use Rattle.numbers.specs.Laws.Answers.{unless-accepted, unless-refused}
 use Rattle.numbers.specs.Laws.Bools.{yes-or-no}
 use Rattle.numbers.specs.Laws.Lists.{length-range}
 use Rattle.diagram.specs.Build.{ofTable}
@@ -21,7 +22,7 @@ use Rattle.cascade.specs.Compile.{imageFor, compile}
 use Rattle.cascade.specs.Groupings.{chosen}
 use Rattle.cascade.specs.Plan.{plan}
 use Rattle.cascade.specs.Laws.Admitting.{plan-admits}
-use Rattle.cascade.specs.Laws.Chosen.{chosen-best}
+use Rattle.cascade.specs.Laws.Chosen.{chosen-best, chosen-refuses-by-nine}
 use Rattle.cascade.specs.Laws.Lengths.{image-length-most}
 use Rattle.listing.specs.Listing.{imageRoom, tableOf, listed}
 
@@ -72,6 +73,43 @@ module _ (input : List ℕ) where
   listed-counted inside count =
       listed-plan
       ∙ rw (le-leb 2 (length input) (omega arith), eq-eqb (length input) (2 + 4 * 2 ^ getD input 0 0) count, inside, eq-eqb (length (tableOf input)) (2 ^ getD input 0 0) (table-length input (2 ^ getD input 0 0) count))
+
+  -- Where sizes are listed, the checks on the bytes are passed and Plan accepts.
+  pub listed-accepted : (sizes : List ℕ) → listed input ≡ accepted sizes
+      → (isVariables (getD input 0 0) ≡ true) × ((length input ≡ 2 + 4 * 2 ^ getD input 0 0) × (plan (getD input 0 0) (tableOf input) (getD input 1 0) ≡ accepted sizes))
+  listed-accepted sizes e =
+      let counted = unless (eqb (length input) (2 + 4 * 2 ^ getD input 0 0)) 2 (plan (getD input 0 0) (tableOf input) (getD input 1 0)) in
+      let two = unless-accepted (leb 2 (length input)) 2 (unless (isVariables (getD input 0 0)) 1 counted) sizes (sym listed-plan ∙ e) in
+      let inside = unless-accepted (isVariables (getD input 0 0)) 1 counted sizes (two .1) in
+      let count = unless-accepted (eqb (length input) (2 + 4 * 2 ^ getD input 0 0)) 2 (plan (getD input 0 0) (tableOf input) (getD input 1 0)) sizes (inside .1) in
+      (inside .0, (eqb-true (length input) (2 + 4 * 2 ^ getD input 0 0) (count .0), count .1))
+
+  -- A refusal has a number of one digit, and is not 10.
+  pub listed-refused : (k : ℕ) → listed input ≡ refused k → k ≤ 9
+  unfolding plan ofTable
+  listed-refused k e =
+      first-check (leb 2 (length input)) 2
+      (unless (isVariables n) 1 (unless (eqb (length input) (2 + 4 * 2 ^ n)) 2 (plan n table limit))) (omega arith)
+      (first-check (isVariables n) 1 (unless (eqb (length input) (2 + 4 * 2 ^ n)) 2 (plan n table limit)) (omega arith)
+      (first-check (eqb (length input) (2 + 4 * 2 ^ n)) 2 (plan n table limit) (omega arith)
+      (first-check (isVariables n) 1 (unless (eqb (length table) (2 ^ n)) 2 (unless (every isValue table) 3 (unless (isLimit limit) 8 (chosen n table limit)))) (omega arith)
+      (first-check (eqb (length table) (2 ^ n)) 2 (unless (every isValue table) 3 (unless (isLimit limit) 8 (chosen n table limit))) (omega arith)
+      (first-check (every isValue table) 3 (unless (isLimit limit) 8 (chosen n table limit)) (omega arith)
+      (first-check (isLimit limit) 8 (chosen n table limit) (omega arith)
+      (λ j f. let nine = chosen-refuses-by-nine n table limit j f in omega arith)))))))
+      k (sym listed-plan ∙ e)
+    where
+      n : ℕ
+      n = getD input 0 0
+
+      table : List ℤ
+      table = tableOf input
+
+      limit : ℕ
+      limit = getD input 1 0
+
+      first-check : (b : Bool) (number : ℕ) (rest : Answer (List ℕ)) → number ≤ 9 → ((k : ℕ) → rest ≡ refused k → k ≤ 9) → (k : ℕ) → unless b number rest ≡ refused k → k ≤ 9
+      first-check = unless-refused (λ k. k ≤ 9)
 
 -- ---- the longest input
 

@@ -1,1 +1,2 @@
 // The listing of a table: from the bytes of the input to the bytes of the text.
+mod decimals;

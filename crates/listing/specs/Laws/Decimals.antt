@@ -54,7 +54,7 @@ unfolding decimal
 decimal-negative number = refl
 
 -- What holds of the numbers below ten, and of a number if of its tenth, holds of all.
-by-digits : (P : ℕ → Type 0) → ((number : ℕ) → number < 10 → P number) → ((number : ℕ) → 10 ≤ number → P (number / 10) → P number) → (number : ℕ) → P number
+pub by-digits : (P : ℕ → Type 0) → ((number : ℕ) → number < 10 → P number) → ((number : ℕ) → 10 ≤ number → P (number / 10) → P number) → (number : ℕ) → P number
 by-digits P small step number = below (suc number) number (omega arith)
   where
     below : (count number : ℕ) → number < count → P number

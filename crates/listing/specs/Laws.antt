@@ -3,3 +3,4 @@ pub mod Decimals
 pub mod Digits
 pub mod Lengths
 pub mod Listed
+pub mod Writing

@@ -34,3 +34,16 @@ fn write_number(text: &mut [u8], at: usize, number: usize) -> usize
     }
     at + count
 }
+
+// A signed number at a place. Answers the place behind it.
+pub(crate) fn write_signed(text: &mut [u8], at: usize, number: i32) -> usize
+    requires { ⌜ at + length (decimal number) ≤ length (now text) ⌝ }
+    ensures { λ r. ⌜ Writes (now (text .entry)) at (decimal number) r (now (text .exit)) ⌝ }
+{
+    let magnitude = numbers::magnitude(number) as usize;
+    if number < 0 {
+        text[at] = b'-';
+        return write_number(text, at + 1, magnitude + 1);
+    }
+    write_number(text, at, magnitude)
+}

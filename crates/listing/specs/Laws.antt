@@ -3,4 +3,5 @@ pub mod Decimals
 pub mod Digits
 pub mod Lengths
 pub mod Listed
+pub mod Pieces
 pub mod Writing

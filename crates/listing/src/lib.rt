@@ -1,2 +1,3 @@
 // The listing of a table: from the bytes of the input to the bytes of the text.
 mod decimals;
+mod lines;

@@ -21,8 +21,8 @@ pub nothing-yet : (row : List ℕ) (at : ℕ) → Writes row at [] at row
 nothing-yet row at = record { behind = omega arith; written = sym (overwritten-none row at) }
 
 -- One byte.
-pub byte-stored : (row : List ℕ) (at byte : ℕ) → at < length row → Writes row at (byte ∷ []) (at + 1) (set row at byte)
-byte-stored row at byte room = record { behind = refl; written = one-stored row at byte room }
+pub byte-stored : (row : List ℕ) (at byte : ℕ) {next : ℕ} → next ≡ at + 1 → at < length row → Writes row at (byte ∷ []) next (set row at byte)
+byte-stored row at byte e room = record { behind = e; written = one-stored row at byte room }
 
 module _ {row row′ : List ℕ} {at next : ℕ} {piece : List ℕ} (w : Writes row at piece next row′) (room : at + length piece ≤ length row) where
   -- The buffer is as long as before.

@@ -1,6 +1,6 @@
 -- `listing::decimals::write_signed` meets its contract, by the sign. Assumes nothing.
 use Prim.Native.Nat.{_+_}
-use mathlib.Core.Path.{_≡_, _∙_, ap, sym}
+use mathlib.Core.Path.{_≡_, refl, _∙_, ap, sym}
 use mathlib.Core.List.{_∷_}
 use native.Mathlib.Omega.{arith}
 use lib.ListN.{length, length-set}
@@ -58,7 +58,7 @@ returns c =
     let a = s .args in
     let e = ap length (negative t) in
     let p = s .pre in
-    rw (negative t) (writes-behind (byte-stored (a .text .now) (a .at) 45 (omega arith)) (omega arith) (c .before .before .write-number .ensures))
+    rw (negative t) (writes-behind (byte-stored (a .text .now) (a .at) 45 refl (omega arith)) (omega arith) (c .before .before .write-number .ensures))
 
 write-number-requires-2 : tie.Need-write-number-requires-2
 write-number-requires-2 c κs = rw (other (c .before)) at (c .before .before .before .before .pre)

@@ -1,3 +1,4 @@
 -- What inner functions promise and hold.
 pub mod Digits
+pub mod Lines
 pub mod Writing

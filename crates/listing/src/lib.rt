@@ -1,3 +1,4 @@
 // The listing of a table: from the bytes of the input to the bytes of the text.
 mod decimals;
 mod lines;
+mod texts;

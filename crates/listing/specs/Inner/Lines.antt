@@ -1,0 +1,30 @@
+-- The lines of the text, from what Build's buffer and Plan's arrays hold.
+use Prim.Native.Nat.{ℕ, _*_, _^_, _≤_, _<_}
+use mathlib.Core.List.{List, [], _∷_}
+use lib.ListN.{length}
+use lib.IntN.{ℤ, pos}
+use Rattle.diagram.specs.Walk.{variableAt, lowAt, highAt, weightAt}
+use Rattle.cascade.specs.declared.Cell.{Cell as PlanCell}
+use Rattle.listing.specs.Text.{line}
+
+-- The line of record k of a node buffer.
+unfoldable pub recordLine : List ℤ → ℕ → List ℕ
+recordLine nodes k = line "node" (pos k ∷ variableAt nodes k ∷ lowAt nodes k ∷ highAt nodes k ∷ weightAt nodes k ∷ [])
+
+-- The line of a cell that Plan answers.
+unfoldable pub planLine : PlanCell → List ℕ
+planLine cell = line "cell" (pos (cell .group) ∷ pos (cell .incoming) ∷ pos (cell .outgoing) ∷ pos (cell .width) ∷ pos (cell .bits) ∷ [])
+
+-- Record k stands in the buffer, and its number can be written.
+pub record RecordThere (nodes : List ℤ) (k : ℕ) : Type 0 where
+  pub from : 1 ≤ k
+  pub inside : 4 * k ≤ length nodes
+  pub few : k < 2 ^ 31
+
+-- The numbers of a cell can be written.
+pub record CellSmall (cell : PlanCell) : Type 0 where
+  pub group : cell .group < 2 ^ 31
+  pub incoming : cell .incoming < 2 ^ 31
+  pub outgoing : cell .outgoing < 2 ^ 31
+  pub width : cell .width < 2 ^ 31
+  pub bits : cell .bits < 2 ^ 31

@@ -1,0 +1,52 @@
+// The lines of a listing: refusals, nodes, cells, and the whole text of a table.
+ghost use Prim.Native.Nat.{_+_, _≤_};
+ghost use mathlib.Core.List.{[], _∷_};
+ghost use lib.ListN.{length};
+ghost use lib.IntN.{pos};
+ghost use Rattle.listing.specs.Text.{line};
+ghost use Rattle.listing.specs.Inner.Lines.{recordLine, planLine, RecordThere, CellSmall};
+ghost use Rattle.listing.specs.Inner.Writing.{Writes};
+use crate::lines;
+use cascade::Cell;
+
+// The line of a refusal, in front. Answers its length.
+pub(crate) fn write_refusal(text: &mut [u8], number: u8) -> usize
+    requires { ⌜ length (line "refused" (pos number ∷ [])) ≤ length (now text) ⌝ }
+    ensures { λ r. ⌜ Writes (now (text .entry)) 0 (line "refused" (pos number ∷ [])) r (now (text .exit)) ⌝ }
+{
+    let numbers = [number as i32];
+    lines::write_line(text, 0, b"refused", &numbers)
+}
+
+// The line of record k at a place. Answers the place behind it.
+fn write_node(text: &mut [u8], at: usize, k: usize, nodes: &[i32]) -> usize
+    requires { ⌜ RecordThere (now nodes) k ⌝ }
+    requires { ⌜ at + length (recordLine (now nodes) k) ≤ length (now text) ⌝ }
+    ensures { λ r. ⌜ Writes (now (text .entry)) at (recordLine (now (nodes .entry)) k) r (now (text .exit)) ⌝ }
+{
+    let place = 4 * (k - 1);
+    let numbers = [
+        k as i32,
+        nodes[place],
+        nodes[place + 1],
+        nodes[place + 2],
+        nodes[place + 3],
+    ];
+    lines::write_line(text, at, b"node", &numbers)
+}
+
+// The line of a cell at a place. Answers the place behind it.
+fn write_cell(text: &mut [u8], at: usize, cell: Cell) -> usize
+    requires { ⌜ CellSmall cell ⌝ }
+    requires { ⌜ at + length (planLine cell) ≤ length (now text) ⌝ }
+    ensures { λ r. ⌜ Writes (now (text .entry)) at (planLine cell) r (now (text .exit)) ⌝ }
+{
+    let numbers = [
+        cell.group as i32,
+        cell.incoming as i32,
+        cell.outgoing as i32,
+        cell.width as i32,
+        cell.bits as i32,
+    ];
+    lines::write_line(text, at, b"cell", &numbers)
+}

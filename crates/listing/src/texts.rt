@@ -4,7 +4,7 @@ ghost use mathlib.Core.List.{[], _∷_};
 ghost use lib.ListN.{length};
 ghost use lib.IntN.{pos};
 ghost use Rattle.listing.specs.Text.{line};
-ghost use Rattle.listing.specs.Inner.Lines.{recordLine, planLine, RecordThere, CellSmall};
+ghost use Rattle.listing.specs.Inner.Lines.{recordLine, planLine, recordLines, planLines, RecordThere, RecordsThere, CellSmall, CellsSmall};
 ghost use Rattle.listing.specs.Inner.Writing.{Writes};
 use crate::lines;
 use cascade::Cell;
@@ -49,4 +49,35 @@ fn write_cell(text: &mut [u8], at: usize, cell: Cell) -> usize
         cell.bits as i32,
     ];
     lines::write_line(text, at, b"cell", &numbers)
+}
+
+// The lines of the first so many records at a place, by rising number. Answers the place behind them.
+fn write_nodes(text: &mut [u8], at: usize, nodes: &[i32], count: usize) -> usize
+    requires { ⌜ RecordsThere (now nodes) count ⌝ }
+    requires { ⌜ at + length (recordLines (now nodes) count) ≤ length (now text) ⌝ }
+    ensures { λ r. ⌜ Writes (now (text .entry)) at (recordLines (now (nodes .entry)) count) r (now (text .exit)) ⌝ }
+{
+    let mut next = at;
+    let mut k = 0;
+    while k < count {
+        next = write_node(text, next, k + 1, nodes);
+        k += 1;
+    }
+    next
+}
+
+// The lines of the first so many cells at a place, from the top cell down. Answers the place behind them.
+fn write_cells(text: &mut [u8], at: usize, cells: [Cell; 12], count: usize) -> usize
+    requires { ⌜ CellsSmall cells count ⌝ }
+    requires { ⌜ at + length (planLines cells count) ≤ length (now text) ⌝ }
+    ensures { λ r. ⌜ Writes (now (text .entry)) at (planLines cells count) r (now (text .exit)) ⌝ }
+{
+    let mut next = at;
+    let mut k = 0;
+    while k < count {
+        let cell = cells[k];
+        next = write_cell(text, next, cell);
+        k += 1;
+    }
+    next
 }

@@ -1,9 +1,11 @@
 -- The lines of the text, from what Build's buffer and Plan's arrays hold.
 use Prim.Native.Nat.{ℕ, _*_, _^_, _≤_, _<_}
-use mathlib.Core.List.{List, [], _∷_}
-use lib.ListN.{length}
+use mathlib.Core.List.{List, [], _∷_, flatMap}
+use lib.ListN.{length, getD, take}
 use lib.IntN.{ℤ, pos}
+use Rattle.numbers.specs.Lists.{numbersFrom}
 use Rattle.diagram.specs.Walk.{variableAt, lowAt, highAt, weightAt}
+use Rattle.cascade.specs.Plan.{noCell}
 use Rattle.cascade.specs.declared.Cell.{Cell as PlanCell}
 use Rattle.listing.specs.Text.{line}
 
@@ -28,3 +30,22 @@ pub record CellSmall (cell : PlanCell) : Type 0 where
   pub outgoing : cell .outgoing < 2 ^ 31
   pub width : cell .width < 2 ^ 31
   pub bits : cell .bits < 2 ^ 31
+
+-- The lines of the first so many records.
+unfoldable pub recordLines : List ℤ → ℕ → List ℕ
+recordLines nodes count = flatMap (recordLine nodes) (numbersFrom 1 count)
+
+-- The lines of the first so many cells.
+unfoldable pub planLines : List PlanCell → ℕ → List ℕ
+planLines cells count = flatMap planLine (take count cells)
+
+-- So many records stand in the buffer.
+pub record RecordsThere (nodes : List ℤ) (count : ℕ) : Type 0 where
+  pub inside : 4 * count ≤ length nodes
+  pub few : count < 2 ^ 31
+
+-- The numbers of the first so many cells can be written.
+pub record CellsSmall (cells : List PlanCell) (count : ℕ) : Type 0 where
+  pub few : count ≤ 12
+  pub inside : count ≤ length cells
+  pub small : (k : ℕ) → k < count → CellSmall (getD cells k noCell)

@@ -1,8 +1,9 @@
 // Lines of the text: a word, its numbers, and the newline.
 ghost use mathlib.Core.Path.{_≡_};
-ghost use mathlib.Core.List.{_++_};
-ghost use Prim.Native.Nat.{_+_, _≤_};
+ghost use mathlib.Core.List.{[], _∷_, _++_};
+ghost use Prim.Native.Nat.{_+_, _^_, _≤_, _<_};
 ghost use lib.ListN.{length};
+ghost use lib.IntN.{pos};
 ghost use Rattle.listing.specs.Text.{fields};
 ghost use Rattle.listing.specs.Inner.Writing.{Writes, field};
 use crate::decimals;
@@ -51,4 +52,14 @@ pub(crate) fn write_line(text: &mut [u8], at: usize, word: &[u8], numbers: &[i32
 {
     let next = write_bytes(text, at, word);
     write_fields(text, next, numbers)
+}
+
+// A line of one count at a place. Answers the place behind it.
+pub(crate) fn write_count(text: &mut [u8], at: usize, word: &[u8], count: usize) -> usize
+    requires { ⌜ count < 2 ^ 31 ⌝ }
+    requires { ⌜ at + length (now word ++ fields (pos count ∷ [])) ≤ length (now text) ⌝ }
+    ensures { λ r. ⌜ Writes (now (text .entry)) at (now (word .entry) ++ fields (pos count ∷ [])) r (now (text .exit)) ⌝ }
+{
+    let numbers = [count as i32];
+    write_line(text, at, word, &numbers)
 }

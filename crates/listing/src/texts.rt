@@ -1,10 +1,10 @@
 // The lines of a listing: refusals, nodes, cells, and the whole text of a table.
-ghost use Prim.Native.Nat.{_+_, _≤_};
+ghost use Prim.Native.Nat.{_+_, _^_, _≤_, _<_};
 ghost use mathlib.Core.List.{[], _∷_};
 ghost use lib.ListN.{length};
 ghost use lib.IntN.{pos};
 ghost use Rattle.listing.specs.Text.{line};
-ghost use Rattle.listing.specs.Inner.Lines.{recordLine, planLine, recordLines, planLines, RecordThere, RecordsThere, CellSmall, CellsSmall};
+ghost use Rattle.listing.specs.Inner.Lines.{recordLine, planLine, recordLines, planLines, diagramText, cascadeText, RecordThere, RecordsThere, CellSmall, CellsSmall};
 ghost use Rattle.listing.specs.Inner.Writing.{Writes};
 use crate::lines;
 use cascade::Cell;
@@ -14,8 +14,7 @@ pub(crate) fn write_refusal(text: &mut [u8], number: u8) -> usize
     requires { ⌜ length (line "refused" (pos number ∷ [])) ≤ length (now text) ⌝ }
     ensures { λ r. ⌜ Writes (now (text .entry)) 0 (line "refused" (pos number ∷ [])) r (now (text .exit)) ⌝ }
 {
-    let numbers = [number as i32];
-    lines::write_line(text, 0, b"refused", &numbers)
+    lines::write_count(text, 0, b"refused", number as usize)
 }
 
 // The line of record k at a place. Answers the place behind it.
@@ -80,4 +79,26 @@ fn write_cells(text: &mut [u8], at: usize, cells: [Cell; 12], count: usize) -> u
         k += 1;
     }
     next
+}
+
+// The table's line, the node lines and the node count, in front. Answers the place behind them.
+fn write_diagram(text: &mut [u8], n: usize, offset: i32, nodes: &[i32], count: usize) -> usize
+    requires { ⌜ (n < 2 ^ 31) × ((count + 1 < 2 ^ 31) × RecordsThere (now nodes) count) ⌝ }
+    requires { ⌜ length (diagramText n offset (now nodes) count) ≤ length (now text) ⌝ }
+    ensures { λ r. ⌜ Writes (now (text .entry)) 0 (diagramText n offset (now (nodes .entry)) count) r (now (text .exit)) ⌝ }
+{
+    let numbers = [n as i32, offset];
+    let first = lines::write_line(text, 0, b"table", &numbers);
+    let next = write_nodes(text, first, nodes, count);
+    lines::write_count(text, next, b"nodes", count + 1)
+}
+
+// The cell lines and the total bits at a place. Answers the place behind them.
+fn write_cascade(text: &mut [u8], at: usize, cells: [Cell; 12], count: usize, bits: usize) -> usize
+    requires { ⌜ (bits < 2 ^ 31) × CellsSmall cells count ⌝ }
+    requires { ⌜ at + length (cascadeText cells count bits) ≤ length (now text) ⌝ }
+    ensures { λ r. ⌜ Writes (now (text .entry)) at (cascadeText cells count bits) r (now (text .exit)) ⌝ }
+{
+    let next = write_cells(text, at, cells, count);
+    lines::write_count(text, next, b"bits", bits)
 }

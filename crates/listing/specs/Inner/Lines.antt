@@ -1,6 +1,6 @@
 -- The lines of the text, from what Build's buffer and Plan's arrays hold.
-use Prim.Native.Nat.{ℕ, _*_, _^_, _≤_, _<_}
-use mathlib.Core.List.{List, [], _∷_, flatMap}
+use Prim.Native.Nat.{ℕ, _+_, _*_, _^_, _≤_, _<_}
+use mathlib.Core.List.{List, [], _∷_, _++_, flatMap}
 use lib.ListN.{length, getD, take}
 use lib.IntN.{ℤ, pos}
 use Rattle.numbers.specs.Lists.{numbersFrom}
@@ -49,3 +49,11 @@ pub record CellsSmall (cells : List PlanCell) (count : ℕ) : Type 0 where
   pub few : count ≤ 12
   pub inside : count ≤ length cells
   pub small : (k : ℕ) → k < count → CellSmall (getD cells k noCell)
+
+-- The table's line, the node lines, and the node count.
+unfoldable pub diagramText : ℕ → ℤ → List ℤ → ℕ → List ℕ
+diagramText n offset nodes count = line "table" (pos n ∷ offset ∷ []) ++ recordLines nodes count ++ line "nodes" (pos (count + 1) ∷ [])
+
+-- The cell lines and the total bits.
+unfoldable pub cascadeText : List PlanCell → ℕ → ℕ → List ℕ
+cascadeText cells count bits = planLines cells count ++ line "bits" (pos bits ∷ [])

@@ -1,4 +1,5 @@
 -- What inner functions promise and hold.
 pub mod Digits
 pub mod Lines
+pub mod Values
 pub mod Writing

@@ -4,4 +4,5 @@ pub mod Digits
 pub mod Lengths
 pub mod Listed
 pub mod Pieces
+pub mod Values
 pub mod Writing

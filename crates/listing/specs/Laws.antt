@@ -4,5 +4,6 @@ pub mod Digits
 pub mod Lengths
 pub mod Listed
 pub mod Pieces
+pub mod Texts
 pub mod Values
 pub mod Writing

@@ -2,4 +2,5 @@
 mod decimals;
 mod input;
 mod lines;
+mod tables;
 mod texts;

@@ -82,8 +82,14 @@ fn write_cells(text: &mut [u8], at: usize, cells: [Cell; 12], count: usize) -> u
 }
 
 // The table's line, the node lines and the node count, in front. Answers the place behind them.
-fn write_diagram(text: &mut [u8], n: usize, offset: i32, nodes: &[i32], count: usize) -> usize
-    requires { ⌜ (n < 2 ^ 31) × ((count + 1 < 2 ^ 31) × RecordsThere (now nodes) count) ⌝ }
+pub(crate) fn write_diagram(
+    text: &mut [u8],
+    n: usize,
+    offset: i32,
+    nodes: &[i32],
+    count: usize,
+) -> usize
+    requires { ⌜ (n < 2 ^ 31) × RecordsThere (now nodes) count ⌝ }
     requires { ⌜ length (diagramText n offset (now nodes) count) ≤ length (now text) ⌝ }
     ensures { λ r. ⌜ Writes (now (text .entry)) 0 (diagramText n offset (now (nodes .entry)) count) r (now (text .exit)) ⌝ }
 {
@@ -94,7 +100,13 @@ fn write_diagram(text: &mut [u8], n: usize, offset: i32, nodes: &[i32], count: u
 }
 
 // The cell lines and the total bits at a place. Answers the place behind them.
-fn write_cascade(text: &mut [u8], at: usize, cells: [Cell; 12], count: usize, bits: usize) -> usize
+pub(crate) fn write_cascade(
+    text: &mut [u8],
+    at: usize,
+    cells: [Cell; 12],
+    count: usize,
+    bits: usize,
+) -> usize
     requires { ⌜ (bits < 2 ^ 31) × CellsSmall cells count ⌝ }
     requires { ⌜ at + length (cascadeText cells count bits) ≤ length (now text) ⌝ }
     ensures { λ r. ⌜ Writes (now (text .entry)) at (cascadeText cells count bits) r (now (text .exit)) ⌝ }

@@ -39,10 +39,10 @@ recordLines nodes count = flatMap (recordLine nodes) (numbersFrom 1 count)
 unfoldable pub planLines : List PlanCell → ℕ → List ℕ
 planLines cells count = flatMap planLine (take count cells)
 
--- So many records stand in the buffer.
+-- So many records stand in the buffer, and the node count can be written.
 pub record RecordsThere (nodes : List ℤ) (count : ℕ) : Type 0 where
   pub inside : 4 * count ≤ length nodes
-  pub few : count < 2 ^ 31
+  pub few : count + 1 < 2 ^ 31
 
 -- The numbers of the first so many cells can be written.
 pub record CellsSmall (cells : List PlanCell) (count : ℕ) : Type 0 where

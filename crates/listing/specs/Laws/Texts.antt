@@ -7,11 +7,20 @@ use native.Mathlib.Numerals.{add-one}
 use native.Mathlib.Omega.{arith}
 use lib.ListN.{length, getD, take, drop, length-append, length-map}
 use lib.Seq.{getD-drop, getD-take, drop-drop}
+use lib.Pow.{pow-mono}
 use lib.IntN.{ℤ, pos}
 use Rattle.numbers.specs.Lists.{numbersFrom, sumOf}
 use Rattle.numbers.specs.Ranges.{widestAddress}
+use Rattle.numbers.specs.Answers.{Answer, accepted, refused}
+use Rattle.numbers.specs.Laws.Answers.{not-refused}
 use Rattle.diagram.specs.Accepted.{Accepted, written}
 use Rattle.diagram.specs.Records.{Record, records, recordNumbers, recordSize, offset, nodeCount}
+use Rattle.diagram.specs.Build.{nodeRoom, Summary, summaryOf, built, Builds}
+use Rattle.diagram.specs.Theorems.{build-leaves}
+use Rattle.diagram.specs.Laws.Builds.{build-answered}
+use Rattle.diagram.specs.Laws.Numbering.{written-length, records-room}
+use Rattle.diagram.specs.declared.Built.{Built}
+use Rattle.diagram.specs.declared.Built.the-variants.{Diagram, Refused}
 use Rattle.diagram.specs.Walk.{numberAt, variableAt, lowAt, highAt, weightAt}
 use Rattle.image.specs.Cells.{Cell, bitsOf, totalBits}
 use Rattle.image.specs.Reader.{mostClasses}
@@ -26,7 +35,7 @@ use Rattle.compiler.specs.Inner.Planned.{PlannedAs}
 use Rattle.compiler.specs.Laws.Planned.{front, small-cells}
 use Rattle.listing.specs.Listing.{nodeLine, nodeLines, cellLine, tableText}
 use Rattle.listing.specs.Text.{line}
-use Rattle.listing.specs.Inner.Lines.{recordLine, recordLines, planLine, planLines, diagramText, cascadeText, CellSmall, CellsSmall}
+use Rattle.listing.specs.Inner.Lines.{recordLine, recordLines, planLine, planLines, diagramText, cascadeText, RecordsThere, CellSmall, CellsSmall}
 
 -- ---- node lines
 
@@ -53,6 +62,44 @@ module _ (n : ℕ) (table nodes rest : List ℤ) (e : nodes ≡ written n table 
       ap₂ (λ lines count. line "table" (pos n ∷ offset table ∷ []) ++ lines ++ line "nodes" (pos count ∷ []))
       (sym (node-lines-from (records n table) nodes rest 0 e))
       (add-one (length (records n table)))
+
+-- A node buffer of 16,380 numbers has room for every table.
+pub most-nodes : (n : ℕ) (table : List ℤ) → Accepted n table → nodeRoom n ≤ 16380
+unfolding nodeRoom recordSize
+most-nodes n table a = let most = pow-mono {i = n} {j = 12} (variables-most n table a) in omega arith
+
+-- What Build answers and leaves for an accepted table, where its buffer has room.
+module _ (n : ℕ) (table buffer nodes : List ℤ) (answer : Built) (a : Accepted n table) (room : nodeRoom n ≤ length buffer) (b : Builds n table buffer answer nodes) where
+  accepts : built answer ≡ accepted (summaryOf n table)
+  accepts = b .answered ∙ build-answered n table (length buffer) a room
+
+  -- It does not refuse.
+  pub never-refused : (k : ℕ) → answer ≡ Refused k → ⊥
+  unfolding built
+  never-refused k e = not-refused (summaryOf n table) k (sym accepts ∙ ap built e)
+
+  -- It answers the node count and the offset.
+  pub summary-is : (count : ℕ) (start : ℤ) → answer ≡ Diagram count start → (count ≡ suc (length (records n table))) × (start ≡ offset table)
+  unfolding built nodeCount
+  summary-is count start e =
+      let same : accepted (record { nodes = count; tableOffset = start }) ≡ accepted (summaryOf n table) = sym (ap built e) ∙ accepts in (
+        ap (λ (s : Answer Summary). elim s [ accepted s ↦ s .nodes | refused k ↦ 0 ]) same,
+        ap (λ (s : Answer Summary). elim s [ accepted s ↦ s .tableOffset | refused k ↦ pos 0 ]) same,
+      )
+
+  -- The records stand in front of the buffer.
+  pub records-left : nodes ≡ written n table ++ drop (recordSize * (nodeCount n table - 1)) buffer
+  records-left = b .left ∙ build-leaves n table buffer (summaryOf n table) (build-answered n table (length buffer) a room)
+
+  -- They are as many as the answer says, and few.
+  pub records-there : RecordsThere nodes (length (records n table))
+  unfolding recordSize
+  records-there =
+      let count = written-length n table in
+      let all = ap length records-left ∙ length-append (written n table) (drop (recordSize * (nodeCount n table - 1)) buffer) in
+      let few = records-room n table in
+      let most = pow-mono {i = n} {j = 12} (variables-most n table a) in
+      record { inside = omega arith; few = omega arith }
 
 -- ---- cell lines
 

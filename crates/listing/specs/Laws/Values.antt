@@ -50,8 +50,8 @@ module _ (input : List ℕ) (row : List ℤ) where
     next-value l = record {
       inside = omega arith;
       read =
-        stored-behind row 0 (valuesOf input count) (v .read) count (signedAt input (2 + 4 * count)) (let n = values-length input count in omega arith) l
-            ∙ ap (overwritten row 0) (sym (values-next input count) ∙ ap (valuesOf input) (sym (add-one count)));
+          stored-behind row 0 (valuesOf input count) (v .read) count (signedAt input (2 + 4 * count)) (let n = values-length input count in omega arith) l
+          ∙ ap (overwritten row 0) (sym (values-next input count) ∙ ap (valuesOf input) (sym (add-one count)));
     }
 
     pub all-values : length row ≤ count → row′ ≡ valuesOf input (length row)

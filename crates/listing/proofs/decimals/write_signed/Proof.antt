@@ -52,7 +52,7 @@ same-length : tie.Need-same-length
 same-length c = let a = c .before .before .before .before .before .before .before .args in c .before .before .write-number .kept .0 ∙ length-set (a .text .now) (a .at) 45
 
 returns : tie.Need-returns
-returns c = 
+returns c =
     let t = c .before .before .before .before in
     let s = t .before .before .before in
     let a = s .args in

@@ -33,7 +33,7 @@ add-text : tie.Need-add-text Inv-loop μ-loop
 add-text c = let r = room (c .before .before) in let l = c .before .loop-test .taken in let p = c .before .before .before .pre in omega arith
 
 slice-write-text : tie.Need-slice-write-text Inv-loop μ-loop
-slice-write-text c = 
+slice-write-text c =
     let l = c .before .before in
     let a = l .before .args in
     let kept = pieces-kept (λ byte. byte ∷ []) (a .bytes .now) (a .text .now) (a .at) (l .loop .inv) (room l) in
@@ -48,7 +48,7 @@ loop-less : tie.Need-loop-less Inv-loop μ-loop
 loop-less c = search needs
 
 loop-again : tie.Need-loop-again Inv-loop μ-loop
-loop-again c = 
+loop-again c =
     let l = c .before .before in
     let a = l .before .args in
     let kept = pieces-kept (λ byte. byte ∷ []) (a .bytes .now) (a .text .now) (a .at) (l .loop .inv) (room l) in

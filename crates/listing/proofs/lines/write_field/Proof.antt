@@ -19,7 +19,7 @@ add-write-signed c = search needs
 
 write-signed-requires : tie.Need-write-signed-requires
 unfolding field
-write-signed-requires c κs = 
+write-signed-requires c κs =
     let s = c .before .before in
     let p = s .pre in
     let kept = length-set (s .args .text .now) (s .args .at) 32 in
@@ -30,7 +30,7 @@ same-length c = let a = c .before .before .before .before .before .args in c .be
 
 returns : tie.Need-returns
 unfolding field
-returns c = 
+returns c =
     let s = c .before .before .before .before .before in
     let a = s .args in
     let p = s .pre in

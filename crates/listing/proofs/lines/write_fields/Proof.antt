@@ -49,7 +49,7 @@ shared-slice-copy-out-write-field : tie.Need-shared-slice-copy-out-write-field I
 shared-slice-copy-out-write-field c = c .before .loop-test .taken
 
 write-field-requires : tie.Need-write-field-requires Inv-loop μ-loop
-write-field-requires c κs = 
+write-field-requires c κs =
     let l = c .before .before .before in
     let a = l .before .before .args in
     let t = c .before .before .loop-test .taken in
@@ -64,7 +64,7 @@ loop-less : tie.Need-loop-less Inv-loop μ-loop
 loop-less c = let t = c .before .before .before .before .before .loop-test .taken in omega arith
 
 loop-again : tie.Need-loop-again Inv-loop μ-loop
-loop-again c = 
+loop-again c =
     let l = c .before .before .before .before .before .before in
     let a = l .before .before .args in
     let t = c .before .before .before .before .before .loop-test .taken in
@@ -81,7 +81,7 @@ same-length : tie.Need-same-length Inv-loop μ-loop
 same-length c = length-set (c .before .loop .text) (c .before .loop .next) 10 ∙ kept (c .before)
 
 returns : tie.Need-returns Inv-loop μ-loop
-returns c = 
+returns c =
     let e = all c .behind in
     let w = whole (c .before) in
     let p = start (c .before) .pre in

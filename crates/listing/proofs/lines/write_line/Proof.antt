@@ -19,7 +19,7 @@ write-bytes-requires : tie.Need-write-bytes-requires
 write-bytes-requires c κs = let s = c .before .before .before in let p = s .pre in let w = whole s in omega arith
 
 write-fields-requires : tie.Need-write-fields-requires
-write-fields-requires c κs = 
+write-fields-requires c κs =
     let s = c .before .before .before .before .before .before .before in
     let e = c .before .before .before .write-bytes .ensures in
     let b = e .behind in
@@ -32,7 +32,7 @@ same-length : tie.Need-same-length
 same-length c = search needs
 
 returns : tie.Need-returns
-returns c = 
+returns c =
     let s = c .before .before .before .before .before .before .before .before .before .before in
     let p = s .pre in
     let w = whole s in

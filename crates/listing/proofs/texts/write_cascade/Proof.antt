@@ -26,7 +26,7 @@ slice-aggregate-write-count c = search needs
 
 write-count-requires : tie.Need-write-count-requires
 unfolding line ascii
-write-count-requires c κs = 
+write-count-requires c κs =
     let s = c .before .before .before .before .before .before .before in
     let e = c .before .before .before .before .write-cells .ensures in
     let b = e .behind in
@@ -40,7 +40,7 @@ same-length c = search needs
 
 returns : tie.Need-returns
 unfolding line ascii cascadeText
-returns c = 
+returns c =
     let s = c .before .before .before .before .before .before .before .before .before .before in
     let w = whole s in
     let p = s .pre .1 in

@@ -36,7 +36,7 @@ slice-aggregate-write-line-2 c = search needs
 
 write-line-requires : tie.Need-write-line-requires
 unfolding planLine line ascii
-write-line-requires c κs = 
+write-line-requires c κs =
     let s = c .before .before .before .before .before .before .before .before .before in
     let cell = s .args .cell in
     let small = s .pre .0 in
@@ -48,7 +48,7 @@ same-length c = search needs
 
 returns : tie.Need-returns
 unfolding planLine line ascii
-returns c = 
+returns c =
     let s = c .before .before .before .before .before .before .before .before .before .before .before .before in
     let cell = s .args .cell in
     let small = s .pre .0 in

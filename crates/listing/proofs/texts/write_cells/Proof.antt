@@ -52,7 +52,7 @@ array-copy-out-cell c = let t = c .loop-test .taken in let f = start (c .before)
 
 write-cell-requires : tie.Need-write-cell-requires Inv-loop μ-loop
 unfolding planLines noCell
-write-cell-requires c κs = 
+write-cell-requires c κs =
     let i = c .before .before in
     let l = i .before in
     let a = start l .args in
@@ -69,7 +69,7 @@ loop-less c = let i = c .before .before .before .before .before in let t = i .lo
 
 loop-again : tie.Need-loop-again Inv-loop μ-loop
 unfolding planLines noCell
-loop-again c = 
+loop-again c =
     let i = c .before .before .before .before .before in
     let l = i .before in
     let a = start l .args in
@@ -80,7 +80,7 @@ same-length c = kept (c .before)
 
 returns : tie.Need-returns Inv-loop μ-loop
 unfolding planLines
-returns c = 
+returns c =
     let l = c .before in
     let a = start l .args in
     all-pieces planLine (take (a .count) (a .t3)) (a .text .now) (a .at) (l .loop .inv) (room l)

@@ -63,7 +63,7 @@ module _ (c : tie.After-write-nodes) where
 
 write-line-requires : tie.Need-write-line-requires
 unfolding line ascii
-write-line-requires c κs = 
+write-line-requires c κs =
     let s = c .before .before .before .before in
     let f = front s in
     let w = whole s in
@@ -71,7 +71,7 @@ write-line-requires c κs =
     rw (toZ-pos w32 {n = s .args .n} (s .pre .0 .0), toZ-ofZ (s .fits .offset)) (omega arith)
 
 write-nodes-requires : tie.Need-write-nodes-requires
-write-nodes-requires c κs = 
+write-nodes-requires c κs =
     let d = c .before .before .before in
     let s = start d in
     let e = first-line d in
@@ -80,7 +80,7 @@ write-nodes-requires c κs =
     let w = whole s in
     let p = s .pre .1 in
     let k = same-room e (omega arith) in
-    (s .pre .0 .1 .1, omega arith)
+    (s .pre .0 .1, omega arith)
 
 slice-aggregate-write-count : tie.Need-slice-aggregate-write-count
 slice-aggregate-write-count c = search needs
@@ -90,7 +90,7 @@ add-write-count c = search needs
 
 write-count-requires : tie.Need-write-count-requires
 unfolding line ascii
-write-count-requires c κs = 
+write-count-requires c κs =
     let d = c .before .before .before .before in
     let s = start (d .before .before .before .before) in
     let e = node-lines d in
@@ -98,14 +98,14 @@ write-count-requires c κs =
     let w = whole s in
     let p = s .pre .1 in
     let k = same-room e (omega arith) in
-    (s .pre .0 .1 .0, omega arith)
+    (s .pre .0 .1 .few, omega arith)
 
 same-length : tie.Need-same-length
 same-length c = search needs
 
 returns : tie.Need-returns
 unfolding line ascii diagramText
-returns c = 
+returns c =
     let d = c .before .before .before .before .before .before .before in
     let s = start (d .before .before .before .before) in
     let w = whole s in

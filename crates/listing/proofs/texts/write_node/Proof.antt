@@ -66,7 +66,7 @@ slice-aggregate-write-line-2 c = search needs
 
 write-line-requires : tie.Need-write-line-requires
 unfolding recordLine line ascii variableAt lowAt highAt weightAt numberAt recordSize
-write-line-requires c κs = 
+write-line-requires c κs =
     let w = c .before .before .before in
     let s = w .before .before .before .before .before in
     let few = s .pre .0 .few in
@@ -78,7 +78,7 @@ same-length c = search needs
 
 returns : tie.Need-returns
 unfolding recordLine line ascii variableAt lowAt highAt weightAt numberAt recordSize
-returns c = 
+returns c =
     let w = c .before .before .before .before .before .before in
     let s = w .before .before .before .before .before in
     let few = s .pre .0 .few in

@@ -45,7 +45,7 @@ add-write-node c = let t = c .before .loop-test .taken in let f = start (c .befo
 
 write-node-requires : tie.Need-write-node-requires Inv-loop μ-loop
 unfolding recordLines
-write-node-requires c κs = 
+write-node-requires c κs =
     let i = c .before in
     let l = i .before in
     let a = start l .args in
@@ -63,7 +63,7 @@ loop-less c = let i = c .before .before .before .before in let t = i .loop-test 
 
 loop-again : tie.Need-loop-again Inv-loop μ-loop
 unfolding recordLines
-loop-again c = 
+loop-again c =
     let i = c .before .before .before .before in
     let l = i .before in
     let a = start l .args in
@@ -74,7 +74,7 @@ same-length c = kept (c .before)
 
 returns : tie.Need-returns Inv-loop μ-loop
 unfolding recordLines
-returns c = 
+returns c =
     let l = c .before in
     let a = start l .args in
     all-pieces (recordLine (a .nodes .now)) (numbersFrom 1 (a .count)) (a .text .now) (a .at) (l .loop .inv) (room l) (let e = length-range 1 (a .count) in let t = c .loop-test .left in omega arith)

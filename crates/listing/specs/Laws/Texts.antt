@@ -9,7 +9,7 @@ use lib.ListN.{length, getD, take, drop, length-append, length-map}
 use lib.Seq.{getD-drop, getD-take, drop-drop}
 use lib.Pow.{pow-mono}
 use lib.IntN.{ℤ, pos}
-use Rattle.numbers.specs.Lists.{numbersFrom, sumOf}
+use Rattle.numbers.specs.Lists.{numbersFrom, every, sumOf}
 use Rattle.numbers.specs.Ranges.{widestAddress}
 use Rattle.numbers.specs.Answers.{Answer, accepted, refused}
 use Rattle.numbers.specs.Laws.Answers.{not-refused}
@@ -26,15 +26,20 @@ use Rattle.image.specs.Cells.{Cell, bitsOf, totalBits}
 use Rattle.image.specs.Reader.{mostClasses}
 use Rattle.cascade.specs.Cascade.{cellOf, cellsFrom}
 use Rattle.cascade.specs.Groupings.{cost, isGrouping}
-use Rattle.cascade.specs.Plan.{planCell, noCell}
+use Rattle.cascade.specs.Plan.{planCell, noCell, Plans}
+use Rattle.cascade.specs.declared.Planned.{Planned}
+use Rattle.cascade.specs.declared.Verdict.the-variants.{Grouping}
+use Rattle.cascade.specs.Laws.Admitting.{plan-admits}
 use Rattle.cascade.specs.declared.Cell.{Cell as PlanCell}
 use Rattle.cascade.specs.Laws.Cards.{grouping-sum}
 use Rattle.cascade.specs.Laws.Cells.{variables-most, cell-address, cell-incoming, cell-outgoing, cell-width-most, cell-bits-most}
 use Rattle.cascade.specs.Laws.Lengths.{cost-most}
 use Rattle.compiler.specs.Inner.Planned.{PlannedAs}
-use Rattle.compiler.specs.Laws.Planned.{front, small-cells}
+use Rattle.compiler.specs.Laws.Planned.{front, groups-are, small-cells, plan-chosen}
 use Rattle.listing.specs.Listing.{nodeLine, nodeLines, cellLine, tableText}
-use Rattle.listing.specs.Text.{line}
+use Rattle.listing.specs.Text.{ascii, line}
+use Rattle.listing.specs.Inner.Listed.{textRoom, TextReady}
+use Rattle.listing.specs.Laws.Lengths.{line-length, count-field}
 use Rattle.listing.specs.Inner.Lines.{recordLine, recordLines, planLine, planLines, diagramText, cascadeText, RecordsThere, CellSmall, CellsSmall}
 
 -- ---- node lines
@@ -156,3 +161,21 @@ module _ {n : ℕ} {table : List ℤ} {sizes : List ℕ} {cells : List PlanCell}
       (flatMap cellLine (cellsFrom n table 0 sizes))
       (line "bits" (pos (totalBits (cellsFrom n table 0 sizes)) ∷ []))
       ∙ ap₂ (λ diagram cascade. diagram ++ cascade) (sym (diagram-text n table nodes rest e)) (sym cascade-text)
+
+-- ---- from Plan's promise
+
+-- A plan with a grouping: its text can be written into a buffer that holds every text.
+pub text-ready : (n : ℕ) (table : List ℤ) (limit : ℕ) (p : Planned) (count bits : ℕ) (text : List ℕ) → Plans n table limit p → p .verdict ≡ Grouping count bits → textRoom ≤ length text → TextReady n table (p .cells) count bits text
+text-ready n table limit p count bits text plans e room =
+    let chosen = plan-chosen n table limit p count bits plans e in
+    let admitted = plan-admits n table limit (chosen .sizes) (chosen .chosen) .0 in
+    record {
+      admitted = admitted;
+      planned = subst (λ (sizes : List ℕ). PlannedAs n table sizes (p .cells) count bits) (sym (groups-are admitted (chosen .planned))) (chosen .planned);
+      room = room;
+    }
+
+-- A refusal of one byte fits such a buffer.
+pub refusal-fits : (k : ℕ) (text : List ℕ) → k < 256 → textRoom ≤ length text → length (line "refused" (pos k ∷ [])) ≤ length text
+unfolding textRoom every ascii
+refusal-fits k text small room = let l = line-length "refused" (pos k ∷ []) (rw (count-field k (omega arith))) in omega arith

@@ -1,7 +1,7 @@
 // The card image and its reader: a step, Run, Expand. It knows nothing of tables.
 mod commands;
 mod evaluation;
-mod operands;
+pub mod operands;
 pub mod places;
 pub mod reading;
 mod rules;

@@ -33,7 +33,7 @@ pub(crate) fn read_four(image: &[u8], at: usize) -> usize
     read_two(image, at) * 65536 + read_two(image, at + 2)
 }
 
-pub(crate) fn read_signed(image: &[u8], at: usize) -> i32
+pub fn read_signed(image: &[u8], at: usize) -> i32
     requires { ⌜ at + 4 ≤ length (now image) ⌝ }
     ensures { λ r. ⌜ r ≡ signedAt (now (image .entry)) at ⌝ }
 {

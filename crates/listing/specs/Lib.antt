@@ -1,3 +1,8 @@
--- The paper's "Listing program".
-pub mod Listing
+-- At the top the paper's "Listing program" and what is proved of it. Inner has what inner functions promise and hold, Laws what is proved
+-- of both.
 pub mod Text
+pub mod Listing
+pub mod Reading
+pub mod Theorems
+pub mod Inner
+pub mod Laws

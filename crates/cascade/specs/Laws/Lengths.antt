@@ -99,11 +99,15 @@ module _ (n : ℕ) (table : List ℤ) (accepted : Accepted n table) where
       let rest = cells-bits-most sizes (h + g) (omega arith) in
       omega arith
 
-  -- The memory bits of every grouping fit 32 bits.
-  pub cost-fits : (sizes : List ℕ) → isGrouping n sizes ≡ true → cost n table sizes < 2 ^ 32
+  -- The memory bits of every grouping are at most those of 12 such cells.
+  pub cost-most : (sizes : List ℕ) → isGrouping n sizes ≡ true → cost n table sizes ≤ 4096 * (12 + 25) * 12
   unfolding cost
-  cost-fits sizes grouping =
+  cost-most sizes grouping =
       let few = variables-most n table accepted in
       let cells = grouping-length n sizes grouping in
       let bits = cells-bits-most sizes 0 (omega (arith, grouping-sum n sizes grouping)) in
       omega arith
+
+  -- And so fit 32 bits.
+  pub cost-fits : (sizes : List ℕ) → isGrouping n sizes ≡ true → cost n table sizes < 2 ^ 32
+  cost-fits sizes grouping = let most = cost-most sizes grouping in omega arith

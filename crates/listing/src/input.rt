@@ -1,0 +1,17 @@
+// The values of an input.
+ghost use mathlib.Core.Path.{_≡_};
+ghost use Prim.Native.Nat.{_+_, _*_, _≤_};
+ghost use lib.ListN.{length};
+ghost use Rattle.listing.specs.Inner.Values.{valuesOf};
+
+// The values behind the first two bytes, as many as there are places.
+pub(crate) fn read_values(input: &[u8], values: &mut [i32])
+    requires { ⌜ 2 + 4 * length (now values) ≤ length (now input) ⌝ }
+    ensures { λ _. ⌜ now (values .exit) ≡ valuesOf (now (input .entry)) (length (now (values .entry))) ⌝ }
+{
+    let mut j = 0;
+    while j < values.len() {
+        values[j] = image::operands::read_signed(input, 2 + 4 * j);
+        j += 1;
+    }
+}

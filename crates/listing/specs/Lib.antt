@@ -3,6 +3,7 @@
 pub mod Text
 pub mod Listing
 pub mod Reading
+pub mod Program
 pub mod Theorems
 pub mod Inner
 pub mod Laws

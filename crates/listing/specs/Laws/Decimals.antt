@@ -125,10 +125,6 @@ decimal-back (negsuc number) = signed ∙ ap (λ size. negℤ (pos size)) (digit
 
 -- ---- lengths
 
--- A number has a digit.
-pub decimal-some : (number : ℕ) → 1 ≤ length (decimal (pos number))
-decimal-some = by-digits (λ number. 1 ≤ length (decimal (pos number))) (λ number s. rw decimal-small (omega arith)) (λ number l before. rw (decimal-step, length-append) (omega arith))
-
 -- A number below 10^k, of k digits at least 1, has at most k digits.
 pub decimal-length : (k number : ℕ) → number < 10 ^ suc k → length (decimal (pos number)) ≤ suc k
 decimal-length zero number l = rw (decimal-small number (omega arith)) (omega arith)

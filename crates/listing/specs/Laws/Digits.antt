@@ -1,5 +1,5 @@
 -- The digits of a number, counted and then written from the lowest up.
-use Prim.Native.Nat.{ℕ, zero, suc, _+_, _-_, _/_, _%_, _≤_, _<_}
+use Prim.Native.Nat.{ℕ, zero, suc, _+_, _/_, _%_, _≤_, _<_}
 use mathlib.Core.Path.{_≡_, refl, sym, _∙_, ap, ap₂}
 use mathlib.Core.List.{List, [], _∷_, _++_, append-assoc}
 use native.Mathlib.Numerals.{add-one}
@@ -13,7 +13,7 @@ use Rattle.numbers.specs.Laws.Rows.{overwritten-none}
 use Rattle.listing.specs.Text.{decimal}
 use Rattle.listing.specs.Inner.Digits.{lowestDigits}
 use Rattle.listing.specs.Inner.Writing.{Writes}
-use Rattle.listing.specs.Laws.Decimals.{by-digits, decimal-small, decimal-step, decimal-some}
+use Rattle.listing.specs.Laws.Decimals.{by-digits, decimal-small, decimal-step}
 
 -- As many digits as are asked for.
 pub lowest-length : (count number : ℕ) → length (lowestDigits count number) ≡ count

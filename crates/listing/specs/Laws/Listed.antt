@@ -2,12 +2,12 @@
 use Prim.Native.Nat.{ℕ, _+_, _-_, _*_, _/_, _^_, _≤_, _<_}
 use mathlib.Core.Path.{_≡_, refl, sym, _∙_, ap}
 use mathlib.Core.Bool.{Bool, true, false}
-use mathlib.Core.List.{List}
+use mathlib.Core.List.{List, [], _∷_}
 use native.Mathlib.Omega.{arith}
 use lib.ListN.{length, getD, length-map}
 use lib.Dec.{leb, eqb}
 use lib.Pow.{pow-mono}
-use lib.IntN.{ℤ}
+use lib.IntN.{ℤ, pos}
 use borrow.Author.Tests.{le-leb, lt-leb, eqb-true, eq-eqb, ne-eqb}
 use Rattle.numbers.specs.Answers.{Answer, accepted, refused, unless, andThen}
 use Rattle.numbers.specs.Lists.{numbersFrom, every}
@@ -24,7 +24,8 @@ use Rattle.cascade.specs.Plan.{plan}
 use Rattle.cascade.specs.Laws.Admitting.{plan-admits}
 use Rattle.cascade.specs.Laws.Chosen.{chosen-best, chosen-refuses-by-nine}
 use Rattle.cascade.specs.Laws.Lengths.{image-length-most}
-use Rattle.listing.specs.Listing.{imageRoom, tableOf, listed}
+use Rattle.listing.specs.Listing.{imageRoom, tableOf, listed, answerText, listing}
+use Rattle.listing.specs.Text.{line}
 
 -- An image buffer of 57,425 bytes or more holds every image: Compile's answer is Plan's, and 10 never occurs.
 pub compile-planned : (n : ℕ) (table : List ℤ) (limit room : ℕ) → 57425 ≤ room → compile n table limit room ≡ plan n table limit
@@ -110,6 +111,18 @@ module _ (input : List ℕ) where
 
       first-check : (b : Bool) (number : ℕ) (rest : Answer (List ℕ)) → number ≤ 9 → ((k : ℕ) → rest ≡ refused k → k ≤ 9) → (k : ℕ) → unless b number rest ≡ refused k → k ≤ 9
       first-check = unless-refused (λ k. k ≤ 9)
+
+  -- A refusal's line.
+  pub refusal-listed : (k : ℕ) → listed input ≡ refused k → listing input ≡ line "refused" (pos k ∷ [])
+  unfolding listing answerText
+  refusal-listed k e = ap (answerText (getD input 0 0) (tableOf input)) e
+
+  -- Plan's answer for an input that passed the checks on its bytes.
+  pub plan-listed : isVariables (getD input 0 0) ≡ true → length input ≡ 2 + 4 * 2 ^ getD input 0 0 → listing input ≡ answerText (getD input 0 0) (tableOf input) (plan (getD input 0 0) (tableOf input) (getD input 1 0))
+  unfolding listing
+  plan-listed inside count =
+      ap (answerText (getD input 0 0) (tableOf input))
+      (listed-plan ∙ rw (le-leb 2 (length input) (omega arith), inside, eq-eqb (length input) (2 + 4 * 2 ^ getD input 0 0) count))
 
 -- ---- the longest input
 

@@ -1,11 +1,11 @@
 -- A piece of text for each element of a list, written one behind the other by a loop.
-use Prim.Native.Nat.{ℕ, suc, _+_, _-_, _≤_, _<_}
-use mathlib.Core.Path.{_≡_, refl, sym, _∙_, ap, ap₂, subst}
+use Prim.Native.Nat.{ℕ, _+_, _≤_, _<_}
+use mathlib.Core.Path.{_≡_, refl, sym, _∙_, ap}
 use mathlib.Core.List.{List, [], _∷_, _++_, flatMap, append-nil, append-assoc}
 use native.Mathlib.Numerals.{add-one}
 use native.Mathlib.Omega.{arith}
 use lib.ListN.{length, getD, take, drop, length-append, take-append-drop}
-use lib.Seq.{take-suc, drop-cons, take-all}
+use lib.Seq.{take-suc, take-all}
 use lib.IntN.{ℤ}
 use Rattle.numbers.specs.Laws.Selections.{flatMap-append}
 use Rattle.listing.specs.Text.{decimal, fields}

@@ -1,11 +1,10 @@
 -- The text of a table, from what Build's buffer and Plan's arrays hold.
 use Prim.Native.Nat.{ℕ, zero, suc, _+_, _-_, _*_, _^_, _≤_, _<_}
 use mathlib.Core.Path.{_≡_, refl, sym, _∙_, ap, ap₂, subst}
-use mathlib.Core.Bool.{true}
 use mathlib.Core.List.{List, [], _∷_, _++_, map, flatMap, append-assoc}
 use native.Mathlib.Numerals.{add-one}
 use native.Mathlib.Omega.{arith}
-use lib.ListN.{length, getD, take, drop, length-append, length-map}
+use lib.ListN.{length, getD, drop, length-append}
 use lib.Seq.{getD-drop, getD-take, drop-drop}
 use lib.Pow.{pow-mono}
 use lib.IntN.{ℤ, pos}
@@ -22,10 +21,10 @@ use Rattle.diagram.specs.Laws.Numbering.{written-length, records-room}
 use Rattle.diagram.specs.declared.Built.{Built}
 use Rattle.diagram.specs.declared.Built.the-variants.{Diagram, Refused}
 use Rattle.diagram.specs.Walk.{numberAt, variableAt, lowAt, highAt, weightAt}
-use Rattle.image.specs.Cells.{Cell, bitsOf, totalBits}
+use Rattle.image.specs.Cells.{Cell, totalBits}
 use Rattle.image.specs.Reader.{mostClasses}
-use Rattle.cascade.specs.Cascade.{cellOf, cellsFrom}
-use Rattle.cascade.specs.Groupings.{cost, isGrouping}
+use Rattle.cascade.specs.Cascade.{cellsFrom}
+use Rattle.cascade.specs.Groupings.{cost}
 use Rattle.cascade.specs.Plan.{planCell, noCell, Plans}
 use Rattle.cascade.specs.declared.Planned.{Planned}
 use Rattle.cascade.specs.declared.Verdict.the-variants.{Grouping}

@@ -1,12 +1,12 @@
 -- Values read one after the other.
 use Prim.Native.Nat.{ℕ, suc, _+_, _-_, _*_, _/_, _≤_, _<_}
-use mathlib.Core.Path.{_≡_, refl, sym, _∙_, ap, ap₂}
+use mathlib.Core.Path.{_≡_, sym, _∙_, ap}
 use mathlib.Core.List.{List, [], _∷_, _++_, map, append-nil}
 use native.Mathlib.Nat.{zero-add}
 use native.Mathlib.Numerals.{add-one}
 use native.Mathlib.Omega.{arith}
-use lib.ListN.{length, set, take, length-map, drop-of-length-le}
-use lib.IntN.{ℤ, pos}
+use lib.ListN.{length, set, length-map, drop-of-length-le}
+use lib.IntN.{ℤ}
 use Rattle.numbers.specs.Lists.{numbersFrom}
 use Rattle.numbers.specs.Inner.Rows.{overwritten}
 use Rattle.numbers.specs.Laws.Lists.{length-range, range-suc, map-append}

@@ -8,7 +8,6 @@ use lib.IntN.{pos}
 use lib.Signed.{mag}
 use mir.Facts.{toZ-ofZ}
 use Rattle.listing.specs.Text.{decimal}
-use Rattle.listing.specs.Inner.Writing.{Writes}
 use Rattle.listing.specs.Laws.Writing.{byte-stored, writes-behind, negative-decimal, other-decimal}
 use borrow.Author.Needs.{needs}
 use Rattle.listing.proofs.decimals.write_signed.Statement.{statement}

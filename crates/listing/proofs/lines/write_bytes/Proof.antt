@@ -1,14 +1,12 @@
 -- `listing::lines::write_bytes` meets its contract. The loop's invariant: the bytes so far are written. Assumes nothing.
 use Prim.Native.Nat.{_+_, _-_, _≤_}
-use mathlib.Core.Path.{_≡_, refl}
 use mathlib.Core.List.{[], _∷_, flatMap}
 use native.Mathlib.Omega.{arith}
 use native.Mathlib.Nat.{add-zero}
 use lib.ListN.{length}
 use borrow.Author.Needs.{needs}
-use Rattle.listing.specs.Inner.Writing.{Writes}
 use Rattle.listing.specs.Laws.Writing.{byte-stored}
-use Rattle.listing.specs.Laws.Pieces.{PiecesWritten, no-pieces, pieces-kept, piece-room, piece-written, all-pieces, byte-pieces}
+use Rattle.listing.specs.Laws.Pieces.{PiecesWritten, no-pieces, pieces-kept, piece-written, all-pieces, byte-pieces}
 use Rattle.listing.proofs.lines.write_bytes.Statement.{statement}
 use Rattle.listing.proofs.lines.write_bytes.Tie as tie
 

@@ -1,8 +1,7 @@
 -- `listing::lines::write_field` meets its contract. Assumes nothing.
-use Prim.Native.Nat.{_+_}
 use mathlib.Core.Path.{refl, _∙_}
 use native.Mathlib.Omega.{arith}
-use lib.ListN.{length, length-set}
+use lib.ListN.{length-set}
 use mir.Facts.{toZ-ofZ}
 use Rattle.listing.specs.Inner.Writing.{field}
 use Rattle.listing.specs.Laws.Writing.{byte-stored, writes-behind}

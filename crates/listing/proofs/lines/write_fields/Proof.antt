@@ -10,7 +10,7 @@ use borrow.Author.Needs.{needs}
 use Rattle.listing.specs.Text.{fields}
 use Rattle.listing.specs.Inner.Writing.{Writes, field}
 use Rattle.listing.specs.Laws.Writing.{byte-stored, writes-behind}
-use Rattle.listing.specs.Laws.Pieces.{PiecesWritten, no-pieces, pieces-kept, pieces-behind, piece-room, piece-written, all-pieces, field-pieces}
+use Rattle.listing.specs.Laws.Pieces.{PiecesWritten, no-pieces, pieces-kept, piece-room, piece-written, all-pieces, field-pieces}
 use Rattle.listing.proofs.lines.write_fields.Statement.{statement}
 use Rattle.listing.proofs.lines.write_fields.Tie as tie
 

@@ -1,5 +1,4 @@
 -- `listing::tables::list_table` meets its contract, by Plan's verdict. Assumes nothing.
-use mathlib.Core.Path.{_≡_, sym, _∙_, ap}
 use native.Mathlib.Omega.{arith}
 use Rattle.compiler.specs.Laws.Compiles.{plan-refused}
 use Rattle.compiler.specs.Laws.Ready.{planned-groups}

@@ -1,14 +1,8 @@
 -- `listing::texts::write_cell` meets its contract: the cell's numbers are written as they are. Assumes nothing.
-use Prim.Native.Nat.{_<_, _^_, _≤_}
-use mathlib.Core.Path.{_≡_}
-use native.Mathlib.Omega.{arith}
-use lib.IntN.{pos}
 use mir.Syntax.{w32}
-use mir.Val.{ofZ, toZ}
-use mir.Facts.{toZ-pos, toZ-ofZ}
+use mir.Facts.{toZ-pos}
 use Rattle.listing.specs.Text.{ascii, line}
 use Rattle.listing.specs.Inner.Lines.{planLine}
-use Rattle.listing.specs.Inner.Writing.{Writes}
 use borrow.Author.Needs.{needs}
 use Rattle.listing.proofs.texts.write_cell.Statement.{statement}
 use Rattle.listing.proofs.texts.write_cell.Tie as tie

@@ -6,7 +6,6 @@ use lib.ListN.{length, getD, take}
 use lib.Seq.{length-take-le, getD-take}
 use Rattle.cascade.specs.Plan.{noCell}
 use Rattle.listing.specs.Inner.Lines.{planLine, planLines}
-use Rattle.listing.specs.Inner.Writing.{Writes}
 use Rattle.listing.specs.Laws.Pieces.{PiecesWritten, no-pieces, pieces-kept, piece-room, piece-written, all-pieces}
 use Rattle.listing.proofs.texts.write_cells.Statement.{statement}
 use Rattle.listing.proofs.texts.write_cells.Tie as tie

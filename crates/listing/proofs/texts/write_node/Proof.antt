@@ -1,17 +1,12 @@
 -- `listing::texts::write_node` meets its contract: the record's numbers are written as they are. Assumes nothing.
 use Prim.Native.Nat.{_-_, _*_}
-use mathlib.Core.Path.{_≡_}
 use native.Mathlib.Nat.{add-zero}
-use native.Mathlib.Omega.{arith}
-use lib.IntN.{pos}
 use mir.Syntax.{w32}
-use mir.Val.{ofZ, toZ}
 use mir.Facts.{toZ-pos, toZ-ofZ}
 use Rattle.listing.specs.Text.{ascii, line}
 use Rattle.diagram.specs.Records.{recordSize}
 use Rattle.diagram.specs.Walk.{numberAt, variableAt, lowAt, highAt, weightAt}
 use Rattle.listing.specs.Inner.Lines.{recordLine}
-use Rattle.listing.specs.Inner.Writing.{Writes}
 use borrow.Author.Needs.{needs}
 use Rattle.listing.proofs.texts.write_node.Statement.{statement}
 use Rattle.listing.proofs.texts.write_node.Tie as tie

@@ -6,7 +6,6 @@ use lib.ListN.{length, getD}
 use Rattle.numbers.specs.Lists.{numbersFrom}
 use Rattle.numbers.specs.Laws.Lists.{length-range, getD-range}
 use Rattle.listing.specs.Inner.Lines.{recordLine, recordLines}
-use Rattle.listing.specs.Inner.Writing.{Writes}
 use Rattle.listing.specs.Laws.Pieces.{PiecesWritten, no-pieces, pieces-kept, piece-room, piece-written, all-pieces}
 use Rattle.listing.proofs.texts.write_nodes.Statement.{statement}
 use Rattle.listing.proofs.texts.write_nodes.Tie as tie

@@ -137,7 +137,7 @@ pub(crate) fn record_table(
     ensures { λ r. ⌜ AllRecorded n (now (table .entry)) (now (nodes .entry)) r (now (nodes .exit)) ⌝ }
     ensures { λ r. ⌜ AllClassed n (now (table .entry)) (now (classes .exit)) (now (firsts .exit)) (now (counts .exit)) ⌝ }
 {
-    blocks::class_cuts(n, table, classes, firsts, counts);
+    classes::class_cuts(n, table, classes, firsts, counts);
     write_records(n, table, classes, firsts, counts, nodes)
 }
 

@@ -55,7 +55,7 @@ pub extern "C" fn panstrait_classes(
     ensures { λ r. ⌜ Classed n (now (table .entry)) (now (classes .entry)) (now (firsts .entry)) (now (counts .entry)) r (now (classes .exit)) (now (firsts .exit)) (now (counts .exit)) ⌝ }
 {
     if sizes_fit(n, table.len(), classes.len(), firsts.len(), counts.len()) {
-        blocks::class_cuts(n, table, classes, firsts, counts);
+        classes::class_cuts(n, table, classes, firsts, counts);
         return true;
     }
     false

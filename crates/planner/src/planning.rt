@@ -57,7 +57,7 @@ fn plan_table(
     ensures { λ r. ⌜ Plans n (now (table .entry)) limit r ⌝ }
     ensures { λ r. ⌜ AllClassed n (now (table .entry)) (now (classes .exit)) (now (firsts .exit)) (now (counts .exit)) ⌝ }
 {
-    blocks::class_cuts(n, table, classes, firsts, counts);
+    classes::class_cuts(n, table, classes, firsts, counts);
     plan_cuts(n, table, limit, firsts, counts)
 }
 

@@ -1,11 +1,11 @@
--- `blocks::class_block` meets its contract. Assumes nothing.
+-- `classes::class_block` meets its contract. Assumes nothing.
 use mathlib.Core.Path.{refl, sym}
 use native.Mathlib.Omega.{arith}
 use lib.Seq.{length-take-le}
-use Rattle.blocks.specs.Inner.Layout.{knownClass, blockClassed}
+use Rattle.classes.specs.Inner.Classing.{knownClass, blockClassed}
 use borrow.Author.Needs.{needs}
-use Rattle.blocks.proofs.class_block.Statement.{statement}
-use Rattle.blocks.proofs.class_block.Tie as tie
+use Rattle.classes.proofs.class_block.Statement.{statement}
+use Rattle.classes.proofs.class_block.Tie as tie
 
 slice-reshare-prefix-find-class : tie.Need-slice-reshare-prefix-find-class
 slice-reshare-prefix-find-class c = search needs

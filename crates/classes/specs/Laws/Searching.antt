@@ -10,10 +10,11 @@ use lib.ListN.{length, getD, drop, length-map}
 use lib.Seq.{drop-cons, drop-length}
 use lib.IntN.{ℤ}
 use Rattle.numbers.specs.Laws.Lists.{getD-map}
 use Rattle.blocks.specs.Blocks.{differences}
 use Rattle.blocks.specs.Classes.{same, numberIn}
-use Rattle.blocks.specs.Inner.Layout.{part, partDifferences}
+use Rattle.blocks.specs.Inner.Layout.{part}
+use Rattle.classes.specs.Inner.Classing.{partDifferences}
 use Rattle.blocks.specs.Laws.Known.{number-here, number-later}
 
 -- The lists before k are passed over.
 unfoldable pub Passed : List (List ℤ) → List ℤ → ℕ → Type 0

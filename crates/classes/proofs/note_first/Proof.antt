@@ -1,12 +1,12 @@
--- `blocks::note_first` meets its contract. Assumes nothing.
+-- `classes::note_first` meets its contract. Assumes nothing.
 use mathlib.Core.Path.{refl}
 use native.Mathlib.Omega.{arith}
 use lib.ListN.{length-set}
 use borrow.Author.Tests.{eq-eqb, ne-eqb}
-use Rattle.blocks.specs.Inner.Layout.{countNoted, firstsNoted}
+use Rattle.classes.specs.Inner.Classing.{countNoted, firstsNoted}
 use borrow.Author.Needs.{needs}
-use Rattle.blocks.proofs.note_first.Statement.{statement}
-use Rattle.blocks.proofs.note_first.Tie as tie
+use Rattle.classes.proofs.note_first.Statement.{statement}
+use Rattle.classes.proofs.note_first.Tie as tie
 
 mul-firsts : tie.Need-mul-firsts
 mul-firsts c = search needs

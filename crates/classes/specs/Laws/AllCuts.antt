@@ -13,9 +13,10 @@ use Rattle.numbers.specs.Inner.Rows.{overwritten}
 use Rattle.numbers.specs.Laws.Lists.{range-suc, map-append}
 use Rattle.numbers.specs.Laws.Overwriting.{take-overwritten, length-overwritten}
 use Rattle.numbers.specs.Laws.Selections.{flatMap-append}
 use Rattle.blocks.specs.Classes.{classCount}
-use Rattle.blocks.specs.Inner.Layout.{cutNumbers, cutFirsts, allNumbers, allFirsts, allCounts, cutPlace, CutsRoom, CutPlaced, AllClassed}
+use Rattle.blocks.specs.Inner.Layout.{cutNumbers, cutFirsts, allNumbers, allFirsts, allCounts, cutPlace, CutsRoom, AllClassed}
+use Rattle.classes.specs.Inner.Classing.{CutPlaced}
 use Rattle.blocks.specs.Laws.Cuts.{length-cut-numbers, length-cut-firsts, cut-end, cut-within}
 
 -- The rows while the cuts before h are classed.
 pub record CutsSoFar (n : ℕ) (table : List ℤ) (h : ℕ) (classRow firstRow countRow : List ℕ) : Type 0 where

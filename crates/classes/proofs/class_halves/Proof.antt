@@ -1,14 +1,14 @@
--- `blocks::class_halves` meets its contract: the upper half is all from the middle on. Assumes nothing.
+-- `classes::class_halves` meets its contract: the upper half is all from the middle on. Assumes nothing.
 use Prim.Native.Nat.{_+_, _-_, _*_, _/_}
 use mathlib.Core.Path.{sym, _∙_, ap₂}
 use native.Mathlib.Omega.{arith}
 use lib.ListN.{length, take, drop, length-drop}
 use lib.Seq.{length-take-le, take-all}
-use Rattle.blocks.specs.Inner.Layout.{cutRows, blockClassed, halvesClassed}
-use Rattle.blocks.specs.Laws.Halves.{upper-room}
+use Rattle.classes.specs.Inner.Classing.{cutRows, blockClassed, halvesClassed}
+use Rattle.classes.specs.Laws.Halves.{upper-room}
 use borrow.Author.Needs.{needs}
-use Rattle.blocks.proofs.class_halves.Statement.{statement}
-use Rattle.blocks.proofs.class_halves.Tie as tie
+use Rattle.classes.proofs.class_halves.Statement.{statement}
+use Rattle.classes.proofs.class_halves.Tie as tie
 
 slice-aggregate-lower : tie.Need-slice-aggregate-lower
 slice-aggregate-lower c = let l = c .before .before .before .args .above .now in sym (length-take-le (length l / 2) l (omega arith))

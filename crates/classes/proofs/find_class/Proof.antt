@@ -1,16 +1,16 @@
--- `blocks::find_class` meets its contract. The loop's invariant: the known classes before k are passed over. Assumes nothing.
+-- `classes::find_class` meets its contract. The loop's invariant: the known classes before k are passed over. Assumes nothing.
 use Prim.Native.Nat.{_-_, _≤_, _<_}
 use mathlib.Core.Path.{_≡_, sym, _∙_, ap}
 use mathlib.Core.List.{[]}
 use native.Mathlib.Omega.{arith}
 use lib.ListN.{length, getD}
 use borrow.Author.Needs.{scaled-fits}
 use Rattle.blocks.specs.Blocks.{differences}
 use Rattle.blocks.specs.Classes.{same}
-use Rattle.blocks.specs.Inner.Layout.{partDifferences}
-use Rattle.blocks.specs.Laws.Searching.{Passed, none-passed, one-passed, found-at, all-passed, length-parts, part-at}
-use Rattle.blocks.proofs.find_class.Statement.{statement}
-use Rattle.blocks.proofs.find_class.Tie as tie
+use Rattle.classes.specs.Inner.Classing.{partDifferences}
+use Rattle.classes.specs.Laws.Searching.{Passed, none-passed, one-passed, found-at, all-passed, length-parts, part-at}
+use Rattle.classes.proofs.find_class.Statement.{statement}
+use Rattle.classes.proofs.find_class.Tie as tie
 
 abbrev Inv-loop : tie.InvT-loop
 Inv-loop table size firsts values k₀ k = (k ≤ length firsts) × Passed (partDifferences table size firsts) (differences values) k

@@ -1,14 +1,14 @@
--- `blocks::same_part` meets its contract. Assumes nothing.
+-- `classes::same_part` meets its contract. Assumes nothing.
 use Prim.Native.Nat.{_+_, _-_, _*_}
 use mathlib.Core.Path.{_≡_, _∙_, ap}
 use native.Mathlib.Omega.{arith}
 use lib.ListN.{take, drop}
 use Rattle.blocks.specs.Blocks.{differences}
 use Rattle.blocks.specs.Classes.{same}
 use Rattle.blocks.specs.Inner.Layout.{part}
 use borrow.Author.Needs.{needs}
-use Rattle.blocks.proofs.same_part.Statement.{statement}
-use Rattle.blocks.proofs.same_part.Tie as tie
+use Rattle.classes.proofs.same_part.Statement.{statement}
+use Rattle.classes.proofs.same_part.Tie as tie
 
 mul-start : tie.Need-mul-start
 mul-start c = search needs

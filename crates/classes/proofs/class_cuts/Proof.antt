@@ -1,12 +1,12 @@
--- `blocks::class_cuts` meets its contract. The loop's invariant: the rows hold the cuts before h. Assumes nothing.
+-- `classes::class_cuts` meets its contract. The loop's invariant: the rows hold the cuts before h. Assumes nothing.
 use Prim.Native.Nat.{suc, _-_, _≤_}
 use mathlib.Core.Path.{_≡_, sym, _∙_, subst}
 use native.Mathlib.Omega.{arith}
 use mir.Facts.{fits-of-lt}
 use Rattle.numbers.specs.Ranges.{mostVariables}
-use Rattle.blocks.specs.Laws.AllCuts.{CutsSoFar, no-cut, cuts-next, cuts-done}
-use Rattle.blocks.proofs.class_cuts.Statement.{statement}
-use Rattle.blocks.proofs.class_cuts.Tie as tie
+use Rattle.classes.specs.Laws.AllCuts.{CutsSoFar, no-cut, cuts-next, cuts-done}
+use Rattle.classes.proofs.class_cuts.Statement.{statement}
+use Rattle.classes.proofs.class_cuts.Tie as tie
 
 abbrev Inv-loop : tie.InvT-loop
 Inv-loop n table classes₀ firsts₀ counts₀ h₀ classes firsts counts h = CutsSoFar n table h classes firsts counts

@@ -1,15 +1,15 @@
--- `blocks::class_cut_below` meets its contract. The loop's invariant: the rows hold what is known after the halves of j blocks of the cut
+-- `classes::class_cut_below` meets its contract. The loop's invariant: the rows hold what is known after the halves of j blocks of the cut
 -- above. Assumes nothing.
 use Prim.Native.Nat.{_+_, _-_, _*_, _/_, _≤_, _<_}
 use mathlib.Core.Path.{_≡_, sym, _∙_, subst}
 use native.Mathlib.Omega.{arith}
 use lib.ListN.{length}
 use borrow.Author.Needs.{needs}
-use Rattle.blocks.specs.Inner.Layout.{cutRows}
-use Rattle.blocks.specs.Laws.Cut.{CutSoFar, cut-start, cut-done}
-use Rattle.blocks.specs.Laws.Halves.{above-inside, cut-halves-room, halves-next}
-use Rattle.blocks.proofs.class_cut_below.Statement.{statement}
-use Rattle.blocks.proofs.class_cut_below.Tie as tie
+use Rattle.classes.specs.Inner.Classing.{cutRows}
+use Rattle.classes.specs.Laws.Cut.{CutSoFar, cut-start, cut-done}
+use Rattle.classes.specs.Laws.Halves.{above-inside, cut-halves-room, halves-next}
+use Rattle.classes.proofs.class_cut_below.Statement.{statement}
+use Rattle.classes.proofs.class_cut_below.Tie as tie
 
 abbrev Inv-loop : tie.InvT-loop
 Inv-loop table size classes₀ firsts₀ count₀ j₀ classes firsts count j = CutSoFar table size (length classes₀) (2 * j) (cutRows count classes firsts)

@@ -1,11 +1,11 @@
--- `blocks::class_cut_at` meets its contract: the parts of both rows that belong to cut h are lent and come back. Assumes nothing.
+-- `classes::class_cut_at` meets its contract: the parts of both rows that belong to cut h are lent and come back. Assumes nothing.
 use native.Mathlib.Omega.{arith}
 use mir.Facts.{fits-of-lt}
 use Rattle.numbers.specs.Ranges.{mostVariables}
-use Rattle.blocks.specs.Laws.Cuts.{CutAt, count-small, within-classes, within-firsts, cut-room, cut-placed}
+use Rattle.classes.specs.Laws.CutRows.{CutAt, count-small, within-classes, within-firsts, cut-room, cut-placed}
 use borrow.Author.Needs.{needs}
-use Rattle.blocks.proofs.class_cut_at.Statement.{statement}
-use Rattle.blocks.proofs.class_cut_at.Tie as tie
+use Rattle.classes.proofs.class_cut_at.Statement.{statement}
+use Rattle.classes.proofs.class_cut_at.Tie as tie
 
 -- What is known of the cut, from the two powers.
 module _ (c : tie.After-power2) where

@@ -12,8 +12,9 @@ use lib.Dec.{eqb}
 use lib.IntN.{ℤ}
 use Rattle.numbers.specs.Laws.Bools.{yes-or-no}
 use Rattle.numbers.specs.Laws.Lists.{drop-take}
-use Rattle.blocks.specs.Inner.Layout.{part, PartsWithin, countNoted, firstsNoted, CutRows, knownClass, blockClassed, halvesClassed, BlockRoom, HalvesRoom}
-use Rattle.blocks.specs.Laws.Cut.{CutSoFar, length-noted, cut-block-room, cut-next}
+use Rattle.blocks.specs.Inner.Layout.{part}
+use Rattle.classes.specs.Inner.Classing.{PartsWithin, countNoted, firstsNoted, CutRows, knownClass, blockClassed, halvesClassed, BlockRoom, HalvesRoom}
+use Rattle.classes.specs.Laws.Cut.{CutSoFar, length-noted, cut-block-room, cut-next}
 
 -- ---- the halves are blocks of the cut
 

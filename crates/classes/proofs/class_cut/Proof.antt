@@ -1,9 +1,9 @@
--- `blocks::class_cut` meets its contract: the one block of cut 0 is the table. Assumes nothing.
-use Rattle.blocks.specs.Inner.Layout.{cutRows}
-use Rattle.blocks.specs.Laws.Cut.{one-block}
+-- `classes::class_cut` meets its contract: the one block of cut 0 is the table. Assumes nothing.
+use Rattle.classes.specs.Inner.Classing.{cutRows}
+use Rattle.classes.specs.Laws.Cut.{one-block}
 use borrow.Author.Needs.{needs}
-use Rattle.blocks.proofs.class_cut.Statement.{statement}
-use Rattle.blocks.proofs.class_cut.Tie as tie
+use Rattle.classes.proofs.class_cut.Statement.{statement}
+use Rattle.classes.proofs.class_cut.Tie as tie
 
 class-block-requires : tie.Need-class-block-requires
 class-block-requires c κs = search needs

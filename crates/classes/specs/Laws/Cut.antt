@@ -12,12 +12,13 @@ use lib.IntN.{ℤ}
 use Rattle.numbers.specs.Laws.Bools.{yes-or-no}
 use Rattle.numbers.specs.Lists.{numbersFrom}
 use Rattle.numbers.specs.Laws.Lists.{length-range, getD-range, getD-map}
 use Rattle.blocks.specs.Blocks.{differences}
 use Rattle.blocks.specs.Classes.{numberIn, distinct}
-use Rattle.blocks.specs.Inner.Layout.{part, partDifferences, CutRows, cutRows, BlockRoom, knownClass, blockClassed, CutRoom, CutClassed, countNoted, firstsNoted, firstsOf}
+use Rattle.blocks.specs.Inner.Layout.{part, firstsOf}
+use Rattle.classes.specs.Inner.Classing.{partDifferences, CutRows, cutRows, BlockRoom, knownClass, blockClassed, CutRoom, CutClassed, countNoted, firstsNoted}
 use Rattle.blocks.specs.Laws.Known.{number-at, number-by, Among, distinct-seen}
-use Rattle.blocks.specs.Laws.Searching.{length-parts, part-at}
-use Rattle.blocks.specs.Laws.Classing.{Classed, none-classed, before-length, classed-next, known-places, all-classed}
+use Rattle.classes.specs.Laws.Searching.{length-parts, part-at}
+use Rattle.classes.specs.Laws.Classing.{Classed, none-classed, before-length, classed-next, known-places, all-classed}
 
 -- The differences of all blocks of a cut.
 abbrev pub cutLists : List ℤ → ℕ → ℕ → List (List ℤ)

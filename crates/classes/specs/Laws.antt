@@ -1,0 +1,7 @@
+-- Laws about the definitions of this crate, which proofs cite.
+pub mod AllCuts
+pub mod Classing
+pub mod Cut
+pub mod CutRows
+pub mod Halves
+pub mod Searching

@@ -1,0 +1,100 @@
+-- A cut's own rows among the rows of all cuts, and that its blocks are the parts of its size.
+use Prim.Native.Nat.{ℕ, zero, suc, _+_, _-_, _*_, _/_, _^_, _≤_, min}
+use mathlib.Core.Path.{_≡_, refl, sym, _∙_, ap, ap₂}
+use mathlib.Core.List.{List, map}
+use native.Mathlib.Nat.{two-pow-succ}
+use native.Mathlib.Omega.{arith}
+use lib.ListN.{length, take, drop, length-take, length-drop}
+use lib.Pow.{pow-pos, pow-mono}
+use lib.IntN.{ℤ}
+use borrow.Rule.Slice.PartMut.{putMid}
+use Rattle.numbers.specs.Lists.{numbersFrom}
+use Rattle.numbers.specs.Inner.Rows.{overwritten}
+use Rattle.numbers.specs.Ranges.{mostVariables}
+use Rattle.numbers.specs.Laws.Lists.{map-map}
+use Rattle.numbers.specs.Laws.Overwriting.{part-back}
+use Rattle.blocks.specs.Blocks.{block, blocks, differences}
+use Rattle.blocks.specs.Classes.{distinct, classes, classCount}
+use Rattle.blocks.specs.Inner.Layout.{part, numbersOf, firstsOf, cutNumbers, cutFirsts, cutPlace, CutsRoom}
+use Rattle.blocks.specs.Laws.Cuts.{length-cut-numbers, length-cut-firsts, cut-within, cut-whole}
+use Rattle.classes.specs.Inner.Classing.{partDifferences, CutPlaced, CutRoom, CutClassed}
+
+module _ (n h : ℕ) (cut : h ≤ n) where
+  -- The blocks of cut h are the parts of size 2^(n-h).
+  pub cut-lists-are : (table : List ℤ) → partDifferences table (2 ^ (n - h)) (numbersFrom 0 (2 ^ h)) ≡ map differences (blocks n table (n - h))
+  unfolding partDifferences part blocks block
+  cut-lists-are table =
+      ap (λ k. partDifferences table (2 ^ (n - h)) (numbersFrom 0 (2 ^ k))) (let e : h ≡ n - (n - h) = omega arith in e)
+      ∙ sym (map-map (block table (n - h)) differences (numbersFrom 0 (2 ^ (n - (n - h)))))
+
+
+-- Cut h of a table with rows for all cuts: its block count and its block size.
+pub record CutAt (n h count size : ℕ) (table : List ℤ) (classRow firstRow : List ℕ) : Type 0 where
+  pub rows : CutsRoom n table classRow firstRow
+  pub cut : h ≤ n
+  pub is-count : count ≡ 2 ^ h
+  pub is-size : size ≡ 2 ^ (n - h)
+
+-- The parts of the rows that belong to the cut.
+module _ {n h count size : ℕ} {table : List ℤ} {classRow firstRow : List ℕ} (k : CutAt n h count size table classRow firstRow) where
+  open CutAt k using (rows, cut, is-count, is-size)
+
+  -- The count is small.
+  pub count-small : (1 ≤ count) × (count ≤ 4096)
+  unfolding mostVariables
+  count-small = rw is-count (pow-pos h, pow-mono {i = h} {j = 12} (let v = rows .variables in omega arith))
+
+  rows-reach : count - 1 + count ≤ cutPlace (suc n)
+  unfolding cutPlace
+  rows-reach = rw is-count (cut-within n h cut)
+
+  pub within-classes : count - 1 + count ≤ length classRow
+  within-classes = rw (rows .classPlaces) rows-reach
+
+  pub within-firsts : count - 1 + count ≤ length firstRow
+  within-firsts = rw (rows .firstPlaces) rows-reach
+
+  abbrev lent : List ℕ → List ℕ
+  lent row = take (count - 1 + count - (count - 1)) (drop (count - 1) row)
+
+  lent-length : (row : List ℕ) → count - 1 + count ≤ length row → length (lent row) ≡ count
+  lent-length row w = simp (length-take, length-drop) (let s = count-small in let e : min (count - 1 + count - (count - 1)) (length row - (count - 1)) ≡ count = omega arith in e)
+
+  -- A cut has one block, or the halves of those of the cut above.
+  halved : (k : ℕ) → (2 ^ k ≡ 1 → ⊥) → 2 ^ k ≡ 2 * (2 ^ k / 2)
+  halved zero other = absurd (other refl)
+  halved (suc k) other = let e : 2 ^ suc k ≡ 2 * (2 ^ suc k / 2) = omega (arith, two-pow-succ k) in e
+
+  pub cut-room : CutRoom table size (lent classRow) (lent firstRow)
+  cut-room = record {
+    whole = rows .whole ∙ sym (ap₂ _*_ (lent-length classRow within-classes ∙ is-count) is-size ∙ cut-whole n h cut);
+    alike = lent-length firstRow within-firsts ∙ sym (lent-length classRow within-classes);
+    halved = rw (lent-length classRow within-classes, is-count) (halved h);
+  }
+
+  pub cut-placed : (found : ℕ) (numbered placed : List ℕ) → CutClassed table size (length (lent classRow)) found numbered placed
+      → CutPlaced n table h classRow firstRow found (putMid (count - 1) (count - 1 + count - (count - 1)) classRow numbered) (putMid (count - 1) (count - 1 + count - (count - 1)) firstRow placed)
+  unfolding cutPlace cutNumbers cutFirsts classCount classes
+  cut-placed found numbered placed c = record {
+    counted = c .counted ∙ ap (λ l. length (distinct l)) same-lists;
+    numbered = ap (putMid (count - 1) many classRow) is-numbered ∙ part-back classRow (count - 1) (cutNumbers n table h) many (is-many ∙ sym (length-cut-numbers n h cut table)) ∙ ap (λ k. overwritten classRow (k - 1) (cutNumbers n table h)) is-count;
+    placed = ap (putMid (count - 1) many firstRow) is-placed ∙ part-back firstRow (count - 1) (cutFirsts n table h) many (is-many ∙ sym (length-cut-firsts n h cut table)) ∙ ap (λ k. overwritten firstRow (k - 1) (cutFirsts n table h)) is-count;
+  }
+    where
+      many : ℕ
+      many = count - 1 + count - (count - 1)
+
+      is-many : many ≡ 2 ^ h
+      is-many = (let s = count-small in let e : count - 1 + count - (count - 1) ≡ count = omega arith in e) ∙ is-count
+
+      blocks-are : length (lent classRow) ≡ 2 ^ h
+      blocks-are = lent-length classRow within-classes ∙ is-count
+
+      same-lists : partDifferences table size (numbersFrom 0 (length (lent classRow))) ≡ map differences (blocks n table (n - h))
+      same-lists = ap₂ (λ s b. partDifferences table s (numbersFrom 0 b)) is-size blocks-are ∙ cut-lists-are n h cut table
+
+      is-numbered : numbered ≡ cutNumbers n table h
+      is-numbered = c .numbered ∙ ap numbersOf same-lists
+
+      is-placed : placed ≡ cutFirsts n table h
+      is-placed = c .placed ∙ ap₂ firstsOf blocks-are same-lists

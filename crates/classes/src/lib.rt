@@ -1,0 +1,159 @@
+// The classes of every cut: each block's class, each class's first block, and how many classes a cut has.
+ghost use mathlib.Core.Path.{_≡_};
+ghost use Prim.Native.Nat.{suc, _+_, _*_, _≤_, _<_};
+ghost use lib.ListN.{length};
+ghost use Rattle.blocks.specs.Blocks.{differences};
+ghost use Rattle.blocks.specs.Classes.{same, numberIn};
+ghost use Rattle.blocks.specs.Inner.Layout.{part, CutsRoom, AllClassed};
+ghost use Rattle.classes.specs.Inner.Classing.{partDifferences, PartsWithin, cutRows, BlockRoom, blockClassed, HalvesRoom, halvesClassed, CutRoom, CutClassed, CutPlaced, countNoted, firstsNoted};
+
+// Whether part j of a table has the differences of these values.
+fn same_part(table: &[i32], size: usize, j: usize, values: &[i32]) -> bool
+    requires { ⌜ j * size + size ≤ length (now table) ⌝ }
+    ensures { λ r. ⌜ r ≡ same (differences (part (now (table .entry)) size j)) (differences (now (values .entry))) ⌝ }
+{
+    let start = j * size;
+    let end = start + size;
+    blocks::same_differences(&table[start..end], values)
+}
+
+// The class of a block among the known ones, each given by its first block; where none is equal, the next new number.
+fn find_class(table: &[i32], size: usize, firsts: &[usize], values: &[i32]) -> usize
+    requires { ⌜ PartsWithin (now table) size (now firsts) ⌝ }
+    ensures { λ r. ⌜ r ≡ numberIn (partDifferences (now (table .entry)) size (now (firsts .entry))) (differences (now (values .entry))) ⌝ }
+{
+    let mut k = 0;
+    let class = loop {
+        if k == firsts.len() {
+            break firsts.len();
+        }
+        if same_part(table, size, firsts[k], values) {
+            break k;
+        }
+        k += 1;
+    };
+    class
+}
+
+// The first block of a new class is noted behind those known, in a row of one place for each block so far.
+fn note_first(firsts: &mut [usize], count: usize, j: usize, class: usize) -> usize
+    requires { ⌜ (count ≤ j) × (j < length (now firsts)) ⌝ }
+    ensures { λ r. ⌜ (r ≡ countNoted count class) × (now (firsts .exit) ≡ firstsNoted (now (firsts .entry)) count j class) ⌝ }
+{
+    firsts[j] = 0;
+    if class == count {
+        firsts[count] = j;
+        return count + 1;
+    }
+    count
+}
+
+// A block is classed: its class is noted, and the block as the first of its class where that is new.
+fn class_block(
+    table: &[i32],
+    size: usize,
+    j: usize,
+    values: &[i32],
+    count: usize,
+    classes: &mut [usize],
+    firsts: &mut [usize],
+) -> usize
+    requires { ⌜ BlockRoom (now table) size j count (now classes) (now firsts) ⌝ }
+    ensures { λ r. ⌜ cutRows r (now (classes .exit)) (now (firsts .exit)) ≡ blockClassed (now (table .entry)) size j (now (values .entry)) (cutRows count (now (classes .entry)) (now (firsts .entry))) ⌝ }
+{
+    let class = find_class(table, size, &firsts[..count], values);
+    classes[j] = class;
+    note_first(firsts, count, j, class)
+}
+
+// The halves of block j of the cut above are classed, the upper half being the part that begins in the block's middle.
+fn class_halves(
+    table: &[i32],
+    size: usize,
+    j: usize,
+    above: &[i32],
+    count: usize,
+    classes: &mut [usize],
+    firsts: &mut [usize],
+) -> usize
+    requires { ⌜ HalvesRoom (now table) size j count (now classes) (now firsts) ⌝ }
+    ensures { λ r. ⌜ cutRows r (now (classes .exit)) (now (firsts .exit)) ≡ halvesClassed (now (table .entry)) size j (now (above .entry)) (cutRows count (now (classes .entry)) (now (firsts .entry))) ⌝ }
+{
+    let middle = above.len() / 2;
+    let lower = &above[..middle];
+    let upper = &above[middle..];
+    let known = class_block(table, size, 2 * j, lower, count, classes, firsts);
+    class_block(table, size, 2 * j + 1, upper, known, classes, firsts)
+}
+
+// The classes of a cut below another: its blocks are the halves of the blocks of the cut above, each a part of the table.
+fn class_cut_below(table: &[i32], size: usize, classes: &mut [usize], firsts: &mut [usize]) -> usize
+    requires { ⌜ CutRoom (now table) size (now classes) (now firsts) ⌝ }
+    requires { ⌜ (length (now classes) ≡ 1 → ⊥) ⌝ }
+    ensures { λ r. ⌜ CutClassed (now (table .entry)) size (length (now (classes .entry))) r (now (classes .exit)) (now (firsts .exit)) ⌝ }
+{
+    let mut count = 0;
+    let mut j = 0;
+    while j < classes.len() / 2 {
+        let start = 2 * j * size;
+        let end = start + 2 * size;
+        count = class_halves(table, size, j, &table[start..end], count, classes, firsts);
+        j += 1;
+    }
+    count
+}
+
+// The classes of a cut whose blocks have this size: each block's class, each class's first block, and the class count. Cut 0 has
+// one block, the table.
+fn class_cut(table: &[i32], size: usize, classes: &mut [usize], firsts: &mut [usize]) -> usize
+    requires { ⌜ CutRoom (now table) size (now classes) (now firsts) ⌝ }
+    ensures { λ r. ⌜ CutClassed (now (table .entry)) size (length (now (classes .entry))) r (now (classes .exit)) (now (firsts .exit)) ⌝ }
+{
+    if classes.len() == 1 {
+        return class_block(table, size, 0, table, 0, classes, firsts);
+    }
+    class_cut_below(table, size, classes, firsts)
+}
+
+// The classes of cut h, at their places in the rows of all cuts.
+fn class_cut_at(
+    n: usize,
+    h: usize,
+    table: &[i32],
+    classes: &mut [usize],
+    firsts: &mut [usize],
+) -> usize
+    requires { ⌜ CutsRoom n (now table) (now classes) (now firsts) ⌝ }
+    requires { ⌜ h ≤ n ⌝ }
+    ensures { λ r. ⌜ CutPlaced n (now (table .entry)) h (now (classes .entry)) (now (firsts .entry)) r (now (classes .exit)) (now (firsts .exit)) ⌝ }
+{
+    let count = numbers::power(h);
+    let size = numbers::power(n - h);
+    let start = count - 1;
+    let end = start + count;
+    class_cut(
+        table,
+        size,
+        &mut classes[start..end],
+        &mut firsts[start..end],
+    )
+}
+
+// The classes of all cuts: each block's class, each class's first block, and the class count of each cut.
+pub fn class_cuts(
+    n: usize,
+    table: &[i32],
+    classes: &mut [usize],
+    firsts: &mut [usize],
+    counts: &mut [usize],
+)
+    requires { ⌜ CutsRoom n (now table) (now classes) (now firsts) ⌝ }
+    requires { ⌜ length (now counts) ≡ suc n ⌝ }
+    ensures { λ r. ⌜ AllClassed n (now (table .entry)) (now (classes .exit)) (now (firsts .exit)) (now (counts .exit)) ⌝ }
+{
+    let mut h = 0;
+    while h <= n {
+        counts[h] = class_cut_at(n, h, table, classes, firsts);
+        h += 1;
+    }
+}

@@ -22,7 +22,7 @@ use Rattle.cascade.specs.Groupings.{descending, closing, groupingsWithin, group
 use Rattle.cascade.specs.Plan.{plan, planCell, noCell, entries, sizeArray, cellArray, totals, planAnswer}
 use Rattle.cascade.specs.declared.Cell.{Cell as PlanCell}
 use Rattle.cascade.specs.Compile.{imageFor, compile, report, compileAnswer, compileCells, compileBuffer}
-use Rattle.listing.specs.Text.{ascii, decimalDigits, decimal, fields, line}
+use Rattle.lines.specs.Text.{ascii, decimalDigits, decimal, fields, line}
 use Rattle.listing.specs.Listing.{imageRoom, tableOf, listed, nodeLine, nodeLines, cellLine, tableText, answerText, listing}
 
 -- What a case asks.

@@ -12,7 +12,7 @@ use Rattle.image.specs.Bytes.{signedAt}
 use Rattle.image.specs.Cells.{Cell, bitsOf, totalBits}
 use Rattle.cascade.specs.Cascade.{cellsFrom}
 use Rattle.cascade.specs.Compile.{compile}
-use Rattle.listing.specs.Text.{line}
+use Rattle.lines.specs.Text.{line}
 
 -- The image buffer of the listing program.
 unfoldable pub imageRoom : ℕ

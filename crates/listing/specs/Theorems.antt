@@ -4,12 +4,11 @@ use Prim.Native.Nat.{ℕ, _+_, _*_, _^_, _≤_, _<_}
 use mathlib.Core.Path.{_≡_, sym, _∙_, ap}
 use mathlib.Core.Bool.{true, false}
 use mathlib.Core.List.{List, [], _∷_}
-use native.Mathlib.Numerals.{add-one}
 use native.Mathlib.Omega.{arith}
 use lib.ListN.{length, getD, take}
 use lib.Seq.{length-take-le, take-all, getD-take}
 use lib.Dec.{leb}
-use lib.IntN.{ℤ, pos, negsuc}
+use lib.IntN.{ℤ}
 use borrow.Author.Tests.{leb-true, leb-false}
 use Rattle.numbers.specs.Answers.{Answer, accepted, refused}
 use Rattle.numbers.specs.Lists.{every}
@@ -18,9 +17,7 @@ use Rattle.numbers.specs.Laws.Bools.{yes-or-no}
 use Rattle.cascade.specs.Groupings.{BestGrouping, chosen, fits, isGrouping}
 use Rattle.cascade.specs.Laws.Chosen.{chosen-refuses, best-chosen}
 use Rattle.listing.specs.Listing.{tableOf, listed, tableText, answerText, listing}
-use Rattle.listing.specs.Reading.{isDigit, readDecimal}
-use Rattle.listing.specs.Text.{ascii, decimalDigits, decimal, fields, line}
-use Rattle.listing.specs.Laws.Decimals.{decimal-back, decimal-negative, digits-alone, decimal-length}
+use Rattle.lines.specs.Text.{ascii, decimalDigits, decimal, fields, line}
 use Rattle.listing.specs.Laws.Lengths.{listing-length}
 use Rattle.listing.specs.Laws.Listed.{listed-under-two, listed-outside, listed-miscounted, listed-counted, listed-refused, listed-too-long}
 
@@ -86,20 +83,6 @@ module _ (input : List ℕ) where
           pub best-listed : (best : List ℕ) → BestGrouping n values limit best → listing input ≡ tableText n values best
           unfolding answerText
           best-listed best b = printed (accepted best) (chosen-listed ∙ best-chosen n values limit best b)
-
--- ---- numbers
-
--- Every number is read back from its digits and its sign.
-pub number-read-back : (z : ℤ) → readDecimal (decimal z) ≡ z
-number-read-back = decimal-back
-
--- It has digits alone, behind a minus sign where it is negative.
-pub number-in-digits : (number : ℕ) → (every isDigit (decimal (pos number)) ≡ true) × (decimal (negsuc number) ≡ 45 ∷ decimal (pos (number + 1)))
-number-in-digits number = (digits-alone number, rw add-one (decimal-negative number))
-
--- And no digit more than it needs: below 10^k at most k of them, for k from 1.
-pub number-no-longer : (k number : ℕ) → number < 10 ^ (k + 1) → length (decimal (pos number)) ≤ k + 1
-number-no-longer k number small = rw add-one (decimal-length k number (rw add-one at small))
 
 -- ---- lengths
 

@@ -1,9 +1,6 @@
 // The listing of a table: from the bytes of the input to the bytes of the text.
-mod decimals;
 mod input;
-mod lines;
 mod tables;
-mod texts;
 
 ghost use mathlib.Core.Path.{_≡_};
 ghost use Prim.Native.Nat.{_≤_};
@@ -13,7 +10,7 @@ ghost use Rattle.cascade.specs.Plan.{plan};
 ghost use Rattle.listing.specs.Listing.{tableOf, answerText, listing};
 ghost use Rattle.listing.specs.Program.{Lists};
 ghost use Rattle.listing.specs.Inner.Listed.{textRoom, InputCounted};
-ghost use Rattle.listing.specs.Inner.Writing.{Writes};
+ghost use Rattle.lines.specs.Inner.Writing.{Writes};
 
 // The bytes of a buffer that holds the text of every input.
 const TEXT_ROOM: usize = 225943;

@@ -5,8 +5,7 @@ ghost use Rattle.cascade.specs.Plan.{plan};
 ghost use Rattle.writer.specs.Inner.Writing.{groups};
 ghost use Rattle.listing.specs.Listing.{tableText, answerText};
 ghost use Rattle.listing.specs.Inner.Listed.{textRoom, TextReady};
-ghost use Rattle.listing.specs.Inner.Writing.{Writes};
-use crate::texts;
+ghost use Rattle.lines.specs.Inner.Writing.{Writes};
 use cascade::Cell;
 use cascade::Verdict;
 

@@ -17,3 +17,4 @@ pub mod Rows
 pub mod Selections
 pub mod Tallies
 pub mod Widths
+pub mod Written

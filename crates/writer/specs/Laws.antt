@@ -3,5 +3,4 @@ pub mod Bytes
 pub mod Cells
 pub mod Commands
 pub mod Images
-pub mod Pieces
 pub mod Words

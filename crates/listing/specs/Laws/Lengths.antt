@@ -32,8 +32,8 @@ use Rattle.cascade.specs.Laws.Chosen.{chosen-best}
 use Rattle.cascade.specs.Laws.Groupings.{grouping-length}
 use Rattle.cascade.specs.Laws.Lengths.{cost-fits}
 use Rattle.listing.specs.Listing.{nodeLine, nodeLines, cellLine, tableText, tableOf, listed, answerText, listing}
-use Rattle.listing.specs.Text.{ascii, decimal, fields, line}
-use Rattle.listing.specs.Laws.Decimals.{decimal-negative, decimal-length}
+use Rattle.lines.specs.Text.{ascii, decimal, fields, line}
+use Rattle.lines.specs.Laws.Decimals.{decimal-negative, decimal-length}
 use Rattle.listing.specs.Laws.Listed.{listed-accepted, listed-refused}
 
 -- ---- a line

@@ -25,7 +25,7 @@ use Rattle.cascade.specs.Laws.Admitting.{plan-admits}
 use Rattle.cascade.specs.Laws.Chosen.{chosen-best, chosen-refuses-by-nine}
 use Rattle.cascade.specs.Laws.Lengths.{image-length-most}
 use Rattle.listing.specs.Listing.{imageRoom, tableOf, listed, answerText, listing}
-use Rattle.listing.specs.Text.{line}
+use Rattle.lines.specs.Text.{line}
 
 -- An image buffer of 57,425 bytes or more holds every image: Compile's answer is Plan's, and 10 never occurs.
 pub compile-planned : (n : ℕ) (table : List ℤ) (limit room : ℕ) → 57425 ≤ room → compile n table limit room ≡ plan n table limit

@@ -36,10 +36,10 @@ use Rattle.cascade.specs.Laws.Lengths.{cost-most}
 use Rattle.compiler.specs.Inner.Planned.{PlannedAs}
 use Rattle.compiler.specs.Laws.Planned.{front, groups-are, small-cells, plan-chosen}
 use Rattle.listing.specs.Listing.{nodeLine, nodeLines, cellLine, tableText}
-use Rattle.listing.specs.Text.{ascii, line}
+use Rattle.lines.specs.Text.{ascii, line}
 use Rattle.listing.specs.Inner.Listed.{textRoom, TextReady}
 use Rattle.listing.specs.Laws.Lengths.{line-length, count-field}
-use Rattle.listing.specs.Inner.Lines.{recordLine, recordLines, planLine, planLines, diagramText, cascadeText, RecordsThere, CellSmall, CellsSmall}
+use Rattle.texts.specs.Inner.Lines.{recordLine, recordLines, planLine, planLines, diagramText, cascadeText, RecordsThere, CellSmall, CellsSmall}
 
 -- ---- node lines
 

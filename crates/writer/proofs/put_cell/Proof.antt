@@ -4,7 +4,7 @@ use mathlib.Core.Path.{ap}
 use borrow.Author.Needs.{needs}
 use Rattle.cascade.specs.Cascade.{cellOf}
 use Rattle.writer.specs.Inner.Writing.{cellBytes}
-use Rattle.writer.specs.Laws.Pieces.{tail-back}
+use Rattle.numbers.specs.Laws.Written.{tail-back}
 use Rattle.writer.proofs.put_cell.Statement.{statement}
 use Rattle.writer.proofs.put_cell.Tie as tie
 

@@ -27,7 +27,7 @@ use Rattle.cascade.specs.Laws.Lengths.{cell-length}
 use Rattle.cascade.specs.Plan.{planCell}
 use Rattle.cascade.specs.declared.Cell.{Cell as PlanCell}
 use Rattle.writer.specs.Inner.Writing.{wordBytes, cellBytes, cellsBytes, groups, CellPlanned, CellsPlanned}
-use Rattle.writer.specs.Laws.Pieces.{written-behind, length-kept}
+use Rattle.numbers.specs.Laws.Written.{written-behind, length-kept}
 use Rattle.writer.specs.Laws.Words.{incoming-is, outgoing-is, width-is, words-are}
 
 -- ---- one cell

@@ -11,7 +11,7 @@ use Rattle.image.specs.Commands.{commandBytes}
 use Rattle.image.specs.Laws.Bytes.{length-bigEndian}
 use Rattle.image.specs.declared.Command.the-variants as commands
 use Rattle.writer.specs.Laws.Bytes.{one-byte}
-use Rattle.writer.specs.Laws.Pieces.{one-stored, written-behind, stored-behind}
+use Rattle.numbers.specs.Laws.Written.{one-stored, written-behind, stored-behind}
 
 module _ (row : List ℕ) where
   -- The command byte and an operand of one byte, in front.

@@ -16,7 +16,7 @@ use Rattle.cascade.specs.Cascade.{cellsFrom, cardFor}
 use Rattle.cascade.specs.Compile.{imageFor}
 use Rattle.cascade.specs.Groupings.{cost}
 use Rattle.writer.specs.Inner.Writing.{cellBytes, cellsBytes}
-use Rattle.writer.specs.Laws.Pieces.{written-behind}
+use Rattle.numbers.specs.Laws.Written.{written-behind}
 
 -- The bytes of the cells' commands are those of the cells.
 commands-bytes : (cells : List Cell) → flatMap commandBytes (flatMap cellCommands cells) ≡ flatMap cellBytes cells

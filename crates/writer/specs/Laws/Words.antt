@@ -25,7 +25,7 @@ use Rattle.cascade.specs.Laws.Lengths.{words-length, cell-words-most}
 use Rattle.cascade.specs.Plan.{planCell}
 use Rattle.cascade.specs.declared.Cell.{Cell as PlanCell}
 use Rattle.writer.specs.Inner.Writing.{wordBytes, RowsKnown, CellPlanned}
-use Rattle.writer.specs.Laws.Pieces.{written-behind, length-kept}
+use Rattle.numbers.specs.Laws.Written.{written-behind, length-kept}
 
 -- ---- a planned cell
 

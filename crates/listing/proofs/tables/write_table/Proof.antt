@@ -13,12 +13,12 @@ use Rattle.diagram.specs.Records.{records, offset}
 use Rattle.cascade.specs.Laws.Cells.{variables-most}
 use Rattle.writer.specs.Inner.Writing.{groups}
 use Rattle.listing.specs.Listing.{tableText}
-use Rattle.listing.specs.Inner.Lines.{diagramText, cascadeText, RecordsThere}
+use Rattle.texts.specs.Inner.Lines.{diagramText, cascadeText, RecordsThere}
 use Rattle.listing.specs.Inner.Listed.{textRoom}
-use Rattle.listing.specs.Inner.Writing.{Writes}
+use Rattle.lines.specs.Inner.Writing.{Writes}
 use Rattle.listing.specs.Laws.Lengths.{table-text-length}
 use Rattle.listing.specs.Laws.Texts.{most-nodes, never-refused, summary-is, records-left, records-there, planned-small, bits-small, whole-text}
-use Rattle.listing.specs.Laws.Writing.{writes-behind, same-room}
+use Rattle.lines.specs.Laws.Writing.{writes-behind, same-room}
 use borrow.Author.Needs.{needs}
 use Rattle.listing.proofs.tables.write_table.Statement.{statement}
 use Rattle.listing.proofs.tables.write_table.Tie as tie

@@ -7,7 +7,7 @@ use Rattle.numbers.specs.Inner.Rows.{overwritten}
 use Rattle.image.specs.Bytes.{bigEndian}
 use Rattle.image.specs.Laws.Bytes.{length-bigEndian}
 use Rattle.writer.specs.Laws.Bytes.{four-bytes}
-use Rattle.writer.specs.Laws.Pieces.{written-behind}
+use Rattle.numbers.specs.Laws.Written.{written-behind}
 use Rattle.writer.proofs.bytes.write_four.Statement.{statement}
 use Rattle.writer.proofs.bytes.write_four.Tie as tie
 

@@ -7,7 +7,7 @@ use lib.ListN.{length-set}
 use borrow.Author.Needs.{needs}
 use Rattle.numbers.specs.Inner.Rows.{overwritten}
 use Rattle.writer.specs.Laws.Bytes.{two-bytes}
-use Rattle.writer.specs.Laws.Pieces.{one-stored, stored-behind}
+use Rattle.numbers.specs.Laws.Written.{one-stored, stored-behind}
 use Rattle.writer.proofs.bytes.write_two.Statement.{statement}
 use Rattle.writer.proofs.bytes.write_two.Tie as tie
 

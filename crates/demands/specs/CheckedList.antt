@@ -14,7 +14,7 @@ use Rattle.blocks.specs.Classes.{same, numberIn, learn, learnAll, distinct, cla
 use Rattle.diagram.specs.Records.{branches, kinds, recordsBelow, node, recordOf, recordsAt, records, recordNumbers, recordSize, offset, nodeCount}
 use Rattle.diagram.specs.Build.{ofTable, nodeRoom, build, buildAnswer}
 use Rattle.diagram.specs.Bound.{stepAt, isJump, jumps, risingKinds, nodeBound}
-use Rattle.image.specs.Bytes.{bigEndian, signedBytes, number, unsignedAt, signedAt}
+use Rattle.operands.specs.Bytes.{bigEndian, signedBytes, number, unsignedAt, signedAt}
 use Rattle.image.specs.Cells.{bitsOf, totalBits}
 use Rattle.image.specs.Commands.{commandBytes, wordCommand, cellCommands, cardCommands, imageOf}
 use Rattle.cascade.specs.Cascade.{wordOf, wordsOf, cellOf, cellsFrom, cardFor}

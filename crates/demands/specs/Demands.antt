@@ -12,7 +12,7 @@ use Rattle.diagram.specs.Accepted.{written, Accepted, nodeFunction}
 use Rattle.diagram.specs.Build.{buildAnswer, buildBuffer, summaryOf, Summary, recordPart}
 use Rattle.diagram.specs.Theorems as diagrams
 use Rattle.diagram.specs.Walk.{walk, walkValue, variableAt, lowAt, highAt, weightAt}
-use Rattle.image.specs.Bytes.{AreBytes}
+use Rattle.operands.specs.Bytes.{AreBytes}
 use Rattle.image.specs.Cells.{Card, Cell, totalBits}
 use Rattle.image.specs.Run.{run, runCard, expand, expandBuffer, cardValues}
 use Rattle.image.specs.Theorems as images

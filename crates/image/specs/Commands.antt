@@ -2,7 +2,7 @@
 use Prim.Native.Nat.{ℕ}
 use mathlib.Core.List.{List, [], _∷_, _++_, map, flatMap}
 use lib.IntN.{pos}
-use Rattle.image.specs.Bytes.{bigEndian, signedBytes}
+use Rattle.operands.specs.Bytes.{bigEndian, signedBytes}
 use Rattle.image.specs.Cells.{Word, Cell, Card, totalBits}
 use Rattle.image.specs.declared.Command.{Command}
 use Rattle.image.specs.declared.Command.the-variants as commands

@@ -1,13 +1,12 @@
 -- Laws about the definitions of this crate, which proofs cite.
 pub mod Bounds
-pub mod Bytes
+pub mod CommandBytes
 pub mod Cards
 pub mod Coming
 pub mod Due
 pub mod Evaluating
 pub mod Held
 pub mod Images
-pub mod Operands
 pub mod Reading
 pub mod Refusals
 pub mod Rules

@@ -1,6 +1,5 @@
 -- At the top the paper's "Image", and the operations Run and Expand. Inner has what inner functions promise and hold, Laws what is
 -- proved of both.
-pub mod Bytes
 pub mod Cells
 pub mod Commands
 pub mod Reader

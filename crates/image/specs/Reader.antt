@@ -8,7 +8,7 @@ use lib.IntN.{pos}
 use Rattle.numbers.specs.Answers.{Answer, accepted, refused, unless, mapAnswer, andThen}
 use Rattle.numbers.specs.Ranges.{isVariables, isValue, isWeight, eqZ, lesser, greater, widestAddress}
 use Rattle.numbers.specs.Widths.{addressBits, weightWidth, cellBits}
-use Rattle.image.specs.Bytes.{unsignedAt, signedAt}
+use Rattle.operands.specs.Bytes.{unsignedAt, signedAt}
 use Rattle.image.specs.declared.Command.{Command}
 use Rattle.image.specs.declared.Command.the-variants.{Table, Cell, Word, End}
 use Rattle.image.specs.declared.Place.{Place}

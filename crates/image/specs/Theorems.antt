@@ -6,7 +6,7 @@ use mathlib.Core.Logic.{_↔_}
 use lib.ListN.{length, getD}
 use lib.IntN.{ℤ, pos}
 use Rattle.numbers.specs.Answers.{accepted, refused, mapAnswer}
-use Rattle.image.specs.Bytes.{AreBytes}
+use Rattle.operands.specs.Bytes.{AreBytes}
 use Rattle.image.specs.Cells.{Card}
 use Rattle.image.specs.Commands.{commandBytes, cardCommands, imageOf, cardOf}
 use Rattle.image.specs.Reader.{reading}

@@ -8,7 +8,6 @@ ghost use Rattle.image.specs.Reader.{cell, due, dueByte, dueSize, comman
 use crate::Command;
 use crate::Kind;
 use crate::Place;
-use crate::operands;
 
 pub(crate) fn due_kind(place: Place) -> Kind
     ensures { λ r. ⌜ dueOf r ≡ due place ⌝ }

@@ -6,7 +6,6 @@ ghost use Rattle.image.specs.Inner.Evaluation.{Accepted, cardRead, resul
 ghost use Rattle.image.specs.Run.{groupValue, runCard};
 use crate::Evaluated;
 use crate::Progress;
-use crate::operands;
 
 pub(crate) fn first_progress(image: &[u8]) -> Progress
     requires { ⌜ 6 ≤ length (now image) ⌝ }

@@ -1,7 +1,6 @@
 // The card image and its reader: a step, Run, Expand. It knows nothing of tables.
 mod commands;
 mod evaluation;
-pub mod operands;
 pub mod places;
 pub mod reading;
 mod rules;

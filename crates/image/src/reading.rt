@@ -10,7 +10,6 @@ use crate::Command;
 use crate::Place;
 use crate::Step;
 use crate::commands;
-use crate::operands;
 use crate::places;
 use crate::rules;
 

@@ -8,7 +8,7 @@ use Rattle.numbers.specs.Answers.{Answer, accepted, refused, unless}
 use Rattle.numbers.specs.Lists.{numbersFrom}
 use Rattle.numbers.specs.Ranges.{isVariables}
 use Rattle.diagram.specs.Records.{Record, records, recordNumbers, offset, nodeCount}
-use Rattle.image.specs.Bytes.{signedAt}
+use Rattle.operands.specs.Bytes.{signedAt}
 use Rattle.image.specs.Cells.{Cell, bitsOf, totalBits}
 use Rattle.cascade.specs.Cascade.{cellsFrom}
 use Rattle.cascade.specs.Compile.{compile}

@@ -11,7 +11,7 @@ pub(crate) fn read_values(input: &[u8], values: &mut [i32])
 {
     let mut j = 0;
     while j < values.len() {
-        values[j] = image::operands::read_signed(input, 2 + 4 * j);
+        values[j] = operands::read_signed(input, 2 + 4 * j);
         j += 1;
     }
 }

@@ -5,7 +5,7 @@ ghost use lib.ListN.{length};
 ghost use Rattle.numbers.specs.Inner.Rows.{overwritten};
 ghost use Rattle.image.specs.Commands.{commandBytes};
 ghost use Rattle.image.specs.declared.Command.the-variants as commands;
-use crate::bytes;
+use operands::writing;
 
 // The table command, in front.
 pub(crate) fn write_table(buffer: &mut [u8], n: usize, offset: i32)
@@ -14,7 +14,7 @@ pub(crate) fn write_table(buffer: &mut [u8], n: usize, offset: i32)
 {
     buffer[0] = 0x56;
     buffer[1] = n as u8;
-    bytes::write_signed(buffer, 2, offset);
+    writing::write_signed(buffer, 2, offset);
 }
 
 // A cell's own command, in front.
@@ -30,8 +30,8 @@ pub(crate) fn write_head(
 {
     buffer[0] = 0x43;
     buffer[1] = group as u8;
-    bytes::write_two(buffer, 2, incoming);
-    bytes::write_two(buffer, 4, outgoing);
+    writing::write_two(buffer, 2, incoming);
+    writing::write_two(buffer, 4, outgoing);
     buffer[6] = width as u8;
 }
 
@@ -41,8 +41,8 @@ pub(crate) fn write_word(buffer: &mut [u8], at: usize, class: usize, weight: i32
     ensures { λ _. ⌜ now (buffer .exit) ≡ overwritten (now (buffer .entry)) at (commandBytes (commands.Word class weight)) ⌝ }
 {
     buffer[at] = 0x57;
-    bytes::write_two(buffer, at + 1, class);
-    bytes::write_signed(buffer, at + 3, weight);
+    writing::write_two(buffer, at + 1, class);
+    writing::write_signed(buffer, at + 3, weight);
 }
 
 // The last command, at a place.
@@ -51,5 +51,5 @@ pub(crate) fn write_end(buffer: &mut [u8], at: usize, bits: usize)
     ensures { λ _. ⌜ now (buffer .exit) ≡ overwritten (now (buffer .entry)) at (commandBytes (commands.End bits)) ⌝ }
 {
     buffer[at] = 0x45;
-    bytes::write_four(buffer, at + 1, bits);
+    writing::write_four(buffer, at + 1, bits);
 }

@@ -1,5 +1,4 @@
 // The image of a table's planned cells, written into a lent buffer.
-mod bytes;
 mod commands;
 
 ghost use mathlib.Core.Path.{_≡_};

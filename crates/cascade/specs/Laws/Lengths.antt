@@ -14,7 +14,7 @@ use Rattle.numbers.specs.Lists.{every, sumOf}
 use Rattle.numbers.specs.Laws.Bools.{both}
 use Rattle.numbers.specs.Laws.Selections.{flatMap-append}
 use Rattle.blocks.specs.Laws.Classes.{class-count-le}
-use Rattle.image.specs.Bytes.{bigEndian, signedBytes}
+use Rattle.operands.specs.Bytes.{bigEndian, signedBytes}
 use Rattle.image.specs.Cells.{Word, Cell, Card, totalBits}
 use Rattle.image.specs.Commands.{commandBytes, wordCommand, cellCommands, cardCommands, imageOf}
 use Rattle.image.specs.declared.Command.the-variants as commands

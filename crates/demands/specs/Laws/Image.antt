@@ -12,7 +12,7 @@ use Rattle.numbers.specs.Ranges.{isVariables, isValue}
 use Rattle.numbers.specs.Widths.{weightWidth}
 use Rattle.numbers.specs.Laws.Answers.{not-refused, map-refused}
 use Rattle.numbers.specs.Laws.Bools.{yes-or-no}
-use Rattle.image.specs.Bytes.{AreBytes}
+use Rattle.operands.specs.Bytes.{AreBytes}
 use Rattle.image.specs.Cells.{Card}
 use Rattle.image.specs.Commands.{cardOf, cardCommands, imageOf}
 use Rattle.image.specs.Reader.{Due, table, cell, word, end, due, dueByte, dueSize, commandAt, keepsRules, placeAfter, widthIsLeast, endsWell, judged, step, followedBy, readFrom, start, reading}

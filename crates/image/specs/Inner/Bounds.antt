@@ -2,19 +2,12 @@
 use Prim.Native.Nat.{ℕ, _+_, _*_, _^_, _≤_, _<_}
 use mathlib.Core.Path.{_≡_}
 use mathlib.Core.Bool.{true}
-use mathlib.Core.List.{List}
 use Rattle.numbers.specs.Ranges.{mostVariables, widestAddress}
 use Rattle.numbers.specs.Widths.{addressBits}
-use Rattle.image.specs.Bytes.{unsignedAt}
 use Rattle.image.specs.Inner.Kinds.{kindOf, widthOf}
 use Rattle.image.specs.Reader.{due, keepsRules, mostClasses}
 use Rattle.image.specs.declared.Command.{Command}
 use Rattle.image.specs.declared.Place.{Place}
-
--- An operand of so many bytes.
-pub record Operand (image : List ℕ) (at count r : ℕ) : Type 0 where
-  pub read : r ≡ unsignedAt image at count
-  pub small : r < 256 ^ count
 
 -- The memory bits that a cell has at most, its weight width being any byte: 2^12 words of 12 + 255 bits.
 unfoldable pub mostBits : ℕ

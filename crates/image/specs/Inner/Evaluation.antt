@@ -8,7 +8,7 @@ use lib.Signed.{mag}
 use Rattle.numbers.specs.Answers.{Answer, accepted, refused}
 use Rattle.numbers.specs.Lists.{numbersFrom}
 use Rattle.numbers.specs.Ranges.{mostVariables}
-use Rattle.image.specs.Bytes.{unsignedAt, signedAt}
+use Rattle.operands.specs.Bytes.{unsignedAt, signedAt}
 use Rattle.image.specs.Cells.{Card}
 use Rattle.image.specs.Commands.{cardOf}
 use Rattle.image.specs.Reader.{reading}

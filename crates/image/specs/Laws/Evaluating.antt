@@ -16,7 +16,7 @@ use Rattle.numbers.specs.Laws.Machine.{mag-add}
 use Rattle.numbers.specs.Laws.Pieces.{shifted-one}
 use Rattle.numbers.specs.Laws.Powers.{part-room}
 use Rattle.image.specs.Inner.Kinds.{kindOf}
-use Rattle.image.specs.Bytes.{unsignedAt, signedAt}
+use Rattle.operands.specs.Bytes.{unsignedAt, signedAt}
 use Rattle.image.specs.Cells as cells
 use Rattle.image.specs.Cells.{Card, totalBits}
 use Rattle.image.specs.Commands.{wordCommand, cellCommands, cardCommands, cardOf}

@@ -8,12 +8,13 @@ use lib.Seq.{drop-length}
 use mir.Syntax.{w32}
 use mir.Val.{SFits, ofZ}
 use Rattle.numbers.specs.Answers.{accepted}
-use Rattle.image.specs.Bytes.{AreBytes, bigEndian, signedBytes}
+use Rattle.operands.specs.Bytes.{AreBytes, bigEndian, signedBytes}
 use Rattle.image.specs.Inner.Kinds.{kindOf}
 use Rattle.image.specs.Commands.{commandBytes, cardCommands, imageOf, cardOf}
 use Rattle.image.specs.Reader.{dueByte, dueSize, commandAt, reading, start}
 use Rattle.image.specs.WellFormed.{WellFormed}
-use Rattle.image.specs.Laws.Bytes.{length-bigEndian, byte-here, operand-here, signed-here, command-back}
+use Rattle.operands.specs.Laws.Bytes.{length-bigEndian, byte-here, operand-here, signed-here}
+use Rattle.image.specs.Laws.CommandBytes.{command-back}
 use Rattle.image.specs.Laws.Cards.{allowed-card}
 use Rattle.image.specs.Laws.Standing.{Allowed, Stands, Standing, reading-parts}
 use Rattle.image.specs.declared.Command.{Command}

@@ -7,12 +7,12 @@ use native.Mathlib.Omega.{arith}
 use lib.Dec.{lit<}
 use lib.ListN.{length}
 use Rattle.numbers.specs.Answers.{Answer, accepted, refused, mapAnswer, andThen}
-use Rattle.image.specs.Bytes.{AreBytes}
+use Rattle.operands.specs.Bytes.{AreBytes}
 use Rattle.image.specs.Inner.Bounds.{WithinBounds}
 use Rattle.image.specs.Inner.Kinds.{widthOf, isEnd}
 use Rattle.image.specs.Reader.{Due, table, cell, word, end, due, dueSize, commandAt, placeAfter, step, followedBy, readFrom, start, reading}
 use Rattle.image.specs.Laws.Bounds.{bounds-start, bounds-kept}
-use Rattle.image.specs.Laws.Operands.{unsigned-one}
+use Rattle.operands.specs.Laws.Operands.{unsigned-one}
 use Rattle.image.specs.Laws.Steps.{Stepped, step-accepted}
 use Rattle.image.specs.declared.Command.{Command}
 use Rattle.image.specs.declared.Command.the-variants.{Table, Cell, Word, End}

@@ -3,7 +3,7 @@ use Prim.Native.Nat.{ℕ, _+_, _*_}
 use mathlib.Core.List.{List, map}
 use lib.IntN.{ℤ}
 use Rattle.numbers.specs.Lists.{numbersFrom}
-use Rattle.image.specs.Bytes.{signedAt}
+use Rattle.operands.specs.Bytes.{signedAt}
 
 -- The first so many values behind the first two bytes.
 unfoldable pub valuesOf : List ℕ → ℕ → List ℤ

@@ -17,7 +17,7 @@ use Rattle.numbers.specs.Laws.Bools.{yes-or-no}
 use Rattle.numbers.specs.Laws.Lists.{length-range}
 use Rattle.diagram.specs.Build.{ofTable}
 use Rattle.diagram.specs.Laws.Checks.{variables-range}
-use Rattle.image.specs.Bytes.{signedAt}
+use Rattle.operands.specs.Bytes.{signedAt}
 use Rattle.cascade.specs.Compile.{imageFor, compile}
 use Rattle.cascade.specs.Groupings.{chosen}
 use Rattle.cascade.specs.Plan.{plan}

@@ -13,7 +13,7 @@ use Rattle.numbers.specs.Laws.Lists.{length-range, range-suc, map-append}
 use Rattle.numbers.specs.Laws.Overwriting.{length-overwritten}
 use Rattle.numbers.specs.Laws.Rows.{overwritten-none, overwritten-front}
 use Rattle.numbers.specs.Laws.Written.{stored-behind}
-use Rattle.image.specs.Bytes.{signedAt}
+use Rattle.operands.specs.Bytes.{signedAt}
 use Rattle.listing.specs.Listing.{tableOf}
 use Rattle.listing.specs.Inner.Values.{valuesOf}
 

@@ -15,7 +15,7 @@ use Rattle.numbers.specs.Laws.Rows.{overwritten-none}
 use Rattle.numbers.specs.Laws.Selections.{flatMap-append}
 use Rattle.numbers.specs.Laws.Tallies.{sum-append}
 use Rattle.diagram.specs.Accepted.{Accepted}
-use Rattle.image.specs.Bytes.{bigEndian}
+use Rattle.operands.specs.Bytes.{bigEndian}
 use Rattle.image.specs.Cells.{Cell}
 use Rattle.image.specs.Commands.{commandBytes, cellCommands}
 use Rattle.image.specs.declared.Command.the-variants as commands

@@ -6,11 +6,11 @@ use native.Mathlib.Omega.{arith}
 use lib.ListN.{length, set, length-append}
 use lib.IntN.{ℤ}
 use Rattle.numbers.specs.Inner.Rows.{overwritten}
-use Rattle.image.specs.Bytes.{bigEndian, signedBytes}
+use Rattle.operands.specs.Bytes.{bigEndian, signedBytes}
 use Rattle.image.specs.Commands.{commandBytes}
-use Rattle.image.specs.Laws.Bytes.{length-bigEndian}
+use Rattle.operands.specs.Laws.Bytes.{length-bigEndian}
 use Rattle.image.specs.declared.Command.the-variants as commands
-use Rattle.writer.specs.Laws.Bytes.{one-byte}
+use Rattle.operands.specs.Laws.Digits.{one-byte}
 use Rattle.numbers.specs.Laws.Written.{one-stored, written-behind, stored-behind}
 
 module _ (row : List ℕ) where

@@ -8,7 +8,7 @@ use lib.IntN.{ℤ}
 use Rattle.numbers.specs.Inner.Rows.{overwritten}
 use Rattle.numbers.specs.Laws.Selections.{flatMap-append}
 use Rattle.blocks.specs.Blocks.{first}
-use Rattle.image.specs.Bytes.{bigEndian, signedBytes}
+use Rattle.operands.specs.Bytes.{bigEndian, signedBytes}
 use Rattle.image.specs.Cells.{Cell}
 use Rattle.image.specs.Commands.{commandBytes, cellCommands, cardCommands, imageOf}
 use Rattle.image.specs.declared.Command.the-variants as commands

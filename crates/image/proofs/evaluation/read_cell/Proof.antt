@@ -9,7 +9,7 @@ use mir.Syntax.{w32}
 use mir.Val.{toZ, ofZ}
 use borrow.Author.Needs.{needs}
 use Rattle.numbers.specs.Ranges.{mostVariables}
-use Rattle.image.specs.Bytes.{unsignedAt, signedAt}
+use Rattle.operands.specs.Bytes.{unsignedAt, signedAt}
 use Rattle.image.specs.Inner.Evaluation.{groupAhead, wordPlace, nextPlace, cellRead}
 use Rattle.image.specs.Laws.Evaluating.{command-room, group-narrow, group-size}
 use Rattle.image.proofs.evaluation.read_cell.Statement.{statement}

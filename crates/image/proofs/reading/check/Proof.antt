@@ -7,7 +7,7 @@ use borrow.Author.Needs.{needs}
 use Rattle.numbers.specs.Answers.{accepted}
 use Rattle.image.specs.declared.Command.{Command}
 use Rattle.image.specs.declared.Place.{Place}
-use Rattle.image.specs.Bytes.{AreBytes}
+use Rattle.operands.specs.Bytes.{AreBytes}
 use Rattle.image.specs.Inner.Kinds.{checked}
 use Rattle.image.specs.Reader.{step, stepped}
 use Rattle.image.specs.Laws.Reading.{Checking, done, checking-start, checking-refused, checking-last, checking-on, step-moves}

@@ -7,7 +7,7 @@ use mir.Syntax.{w32}
 use mir.Val.{ofZ, toZ}
 use mir.Facts.{toZ-ofZ}
 use borrow.Author.Needs.{sfits-of}
-use Rattle.image.specs.Bytes.{signedAt}
+use Rattle.operands.specs.Bytes.{signedAt}
 use Rattle.listing.specs.Laws.Values.{ValuesRead, no-values, values-kept, next-value, all-values}
 use Rattle.listing.proofs.input.read_values.Statement.{statement}
 use Rattle.listing.proofs.input.read_values.Tie as tie

@@ -7,7 +7,7 @@ use native.Mathlib.Omega.{arith}
 use lib.IntN.{ℤ, pos, negsuc}
 use lib.Signed.{mag, ltZ}
 use borrow.Author.Tests.{le-ltb}
-use Rattle.image.specs.Bytes.{bigEndian, signedBytes}
+use Rattle.operands.specs.Bytes.{bigEndian, signedBytes}
 
 -- One byte.
 pub one-byte : (v : ℕ) → v < 256 → bigEndian 1 v ≡ v ∷ []

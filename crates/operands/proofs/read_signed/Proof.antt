@@ -1,13 +1,13 @@
--- `image::operands::read_signed` meets its contract: bits of the upper half stand for a negative number. Assumes nothing.
+-- `operands::read_signed` meets its contract: bits of the upper half stand for a negative number. Assumes nothing.
 use mathlib.Core.Path.{_∙_, ap}
 use mir.Syntax.{w32}
 use mir.Val.{toZ}
 use mir.Facts.{toZ-ofZ}
 use borrow.Author.Needs.{needs}
-use Rattle.image.specs.Bytes.{signedAt}
-use Rattle.image.specs.Laws.Operands.{signed-upper, signed-upper-fits}
-use Rattle.image.proofs.operands.read_signed.Statement.{statement}
-use Rattle.image.proofs.operands.read_signed.Tie as tie
+use Rattle.operands.specs.Bytes.{signedAt}
+use Rattle.operands.specs.Laws.Operands.{signed-upper, signed-upper-fits}
+use Rattle.operands.proofs.read_signed.Statement.{statement}
+use Rattle.operands.proofs.read_signed.Tie as tie
 
 read-four-requires : tie.Need-read-four-requires
 read-four-requires c κs = search needs

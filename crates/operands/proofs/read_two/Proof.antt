@@ -1,11 +1,11 @@
--- `image::operands::read_two` meets its contract. Assumes nothing.
+-- `operands::read_two` meets its contract. Assumes nothing.
 use Prim.Native.Nat.{_+_, _*_}
 use mathlib.Core.Path.{sym, _∙_, ap₂}
 use native.Mathlib.Omega.{arith}
 use borrow.Author.Needs.{needs}
-use Rattle.image.specs.Laws.Operands.{unsigned-two}
-use Rattle.image.proofs.operands.read_two.Statement.{statement}
-use Rattle.image.proofs.operands.read_two.Tie as tie
+use Rattle.operands.specs.Laws.Operands.{unsigned-two}
+use Rattle.operands.proofs.read_two.Statement.{statement}
+use Rattle.operands.proofs.read_two.Tie as tie
 
 byte-requires : tie.Need-byte-requires
 byte-requires c κs = search needs

@@ -1,4 +1,4 @@
--- `writer::bytes::write_two` meets its contract. Assumes nothing.
+-- `operands::writing::write_two` meets its contract. Assumes nothing.
 use Prim.Native.Nat.{_+_, _/_, _%_}
 use mathlib.Core.List.{[], _∷_}
 use mathlib.Core.Path.{sym, _∙_, ap}
@@ -6,10 +6,10 @@ use native.Mathlib.Omega.{arith}
 use lib.ListN.{length-set}
 use borrow.Author.Needs.{needs}
 use Rattle.numbers.specs.Inner.Rows.{overwritten}
-use Rattle.writer.specs.Laws.Bytes.{two-bytes}
+use Rattle.operands.specs.Laws.Digits.{two-bytes}
 use Rattle.numbers.specs.Laws.Written.{one-stored, stored-behind}
-use Rattle.writer.proofs.bytes.write_two.Statement.{statement}
-use Rattle.writer.proofs.bytes.write_two.Tie as tie
+use Rattle.operands.proofs.writing.write_two.Statement.{statement}
+use Rattle.operands.proofs.writing.write_two.Tie as tie
 
 cast-buffer : tie.Need-cast-buffer
 cast-buffer c = search needs

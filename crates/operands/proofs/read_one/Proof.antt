@@ -1,9 +1,9 @@
--- `image::operands::read_one` meets its contract. Assumes nothing.
+-- `operands::read_one` meets its contract. Assumes nothing.
 use mathlib.Core.Path.{sym, _∙_}
 use native.Mathlib.Omega.{arith}
-use Rattle.image.specs.Laws.Operands.{unsigned-one}
-use Rattle.image.proofs.operands.read_one.Statement.{statement}
-use Rattle.image.proofs.operands.read_one.Tie as tie
+use Rattle.operands.specs.Laws.Operands.{unsigned-one}
+use Rattle.operands.proofs.read_one.Statement.{statement}
+use Rattle.operands.proofs.read_one.Tie as tie
 
 byte-requires : tie.Need-byte-requires
 byte-requires c κs = omega arith

@@ -1,11 +1,11 @@
--- `image::operands::read_four` meets its contract. Assumes nothing.
+-- `operands::read_four` meets its contract. Assumes nothing.
 use Prim.Native.Nat.{_+_, _*_}
 use mathlib.Core.Path.{sym, _∙_, ap₂}
 use native.Mathlib.Omega.{arith}
 use borrow.Author.Needs.{needs}
-use Rattle.image.specs.Laws.Operands.{unsigned-four}
-use Rattle.image.proofs.operands.read_four.Statement.{statement}
-use Rattle.image.proofs.operands.read_four.Tie as tie
+use Rattle.operands.specs.Laws.Operands.{unsigned-four}
+use Rattle.operands.proofs.read_four.Statement.{statement}
+use Rattle.operands.proofs.read_four.Tie as tie
 
 read-two-requires : tie.Need-read-two-requires
 read-two-requires c κs = search needs

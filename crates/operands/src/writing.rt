@@ -3,10 +3,10 @@ ghost use mathlib.Core.Path.{_≡_};
 ghost use Prim.Native.Nat.{_+_, _≤_, _<_};
 ghost use lib.ListN.{length};
 ghost use Rattle.numbers.specs.Inner.Rows.{overwritten};
-ghost use Rattle.image.specs.Bytes.{bigEndian, signedBytes};
+ghost use Rattle.operands.specs.Bytes.{bigEndian, signedBytes};
 
 // Two bytes of a number at a place.
-pub(crate) fn write_two(buffer: &mut [u8], at: usize, number: usize)
+pub fn write_two(buffer: &mut [u8], at: usize, number: usize)
     requires { ⌜ at + 2 ≤ length (now buffer) ⌝ }
     ensures { λ _. ⌜ now (buffer .exit) ≡ overwritten (now (buffer .entry)) at (bigEndian 2 number) ⌝ }
 {
@@ -15,7 +15,7 @@ pub(crate) fn write_two(buffer: &mut [u8], at: usize, number: usize)
 }
 
 // Four bytes of a number at a place.
-pub(crate) fn write_four(buffer: &mut [u8], at: usize, number: usize)
+pub fn write_four(buffer: &mut [u8], at: usize, number: usize)
     requires { ⌜ at + 4 ≤ length (now buffer) ⌝ }
     ensures { λ _. ⌜ now (buffer .exit) ≡ overwritten (now (buffer .entry)) at (bigEndian 4 number) ⌝ }
 {
@@ -24,7 +24,7 @@ pub(crate) fn write_four(buffer: &mut [u8], at: usize, number: usize)
 }
 
 // Four bytes of a signed number at a place, in two's complement.
-pub(crate) fn write_signed(buffer: &mut [u8], at: usize, number: i32)
+pub fn write_signed(buffer: &mut [u8], at: usize, number: i32)
     requires { ⌜ at + 4 ≤ length (now buffer) ⌝ }
     ensures { λ _. ⌜ now (buffer .exit) ≡ overwritten (now (buffer .entry)) at (signedBytes number) ⌝ }
 {

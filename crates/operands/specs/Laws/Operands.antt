@@ -10,7 +10,7 @@ use lib.IntN.{pos, negsuc, _-ℤ_}
 use mir.Syntax.{w32}
 use mir.Val.{SFits, toZ}
 use mir.Facts.{toZ-pos, toZ-neg}
-use Rattle.image.specs.Bytes.{number, unsignedAt}
+use Rattle.operands.specs.Bytes.{number, unsignedAt}
 
 module _ (image : List ℕ) (at : ℕ) where
   byte-here : at < length image → drop at image ≡ getD image at 0 ∷ drop (at + 1) image

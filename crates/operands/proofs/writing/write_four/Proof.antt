@@ -1,15 +1,15 @@
--- `writer::bytes::write_four` meets its contract: two bytes, and two behind them. Assumes nothing.
+-- `operands::writing::write_four` meets its contract: two bytes, and two behind them. Assumes nothing.
 use Prim.Native.Nat.{_+_, _/_}
 use mathlib.Core.Path.{sym, _∙_, ap}
 use native.Mathlib.Omega.{arith}
 use borrow.Author.Needs.{needs}
 use Rattle.numbers.specs.Inner.Rows.{overwritten}
-use Rattle.image.specs.Bytes.{bigEndian}
-use Rattle.image.specs.Laws.Bytes.{length-bigEndian}
-use Rattle.writer.specs.Laws.Bytes.{four-bytes}
+use Rattle.operands.specs.Bytes.{bigEndian}
+use Rattle.operands.specs.Laws.Bytes.{length-bigEndian}
+use Rattle.operands.specs.Laws.Digits.{four-bytes}
 use Rattle.numbers.specs.Laws.Written.{written-behind}
-use Rattle.writer.proofs.bytes.write_four.Statement.{statement}
-use Rattle.writer.proofs.bytes.write_four.Tie as tie
+use Rattle.operands.proofs.writing.write_four.Statement.{statement}
+use Rattle.operands.proofs.writing.write_four.Tie as tie
 
 write-two-requires : tie.Need-write-two-requires
 write-two-requires c κs = search needs

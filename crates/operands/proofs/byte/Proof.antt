@@ -1,9 +1,9 @@
--- `image::operands::byte` meets its contract. Assumes nothing.
+-- `operands::byte` meets its contract. Assumes nothing.
 use mathlib.Core.Path.{refl}
 use native.Mathlib.Omega.{arith}
 use borrow.Author.Needs.{needs}
-use Rattle.image.proofs.operands.byte.Statement.{statement}
-use Rattle.image.proofs.operands.byte.Tie as tie
+use Rattle.operands.proofs.byte.Statement.{statement}
+use Rattle.operands.proofs.byte.Tie as tie
 
 shared-slice-read-result : tie.Need-shared-slice-read-result
 shared-slice-read-result c = search needs

@@ -1,14 +1,14 @@
--- `writer::bytes::write_signed` meets its contract, by the sign. Assumes nothing.
+-- `operands::writing::write_signed` meets its contract, by the sign. Assumes nothing.
 use Prim.Native.Nat.{_-_}
 use mathlib.Core.Path.{_≡_, _∙_, ap}
 use lib.Signed.{mag}
 use mir.Facts.{toZ-ofZ}
 use borrow.Author.Needs.{needs}
 use Rattle.numbers.specs.Inner.Rows.{overwritten}
-use Rattle.image.specs.Bytes.{bigEndian, signedBytes}
-use Rattle.writer.specs.Laws.Bytes.{negative-bytes, other-bytes}
-use Rattle.writer.proofs.bytes.write_signed.Statement.{statement}
-use Rattle.writer.proofs.bytes.write_signed.Tie as tie
+use Rattle.operands.specs.Bytes.{bigEndian, signedBytes}
+use Rattle.operands.specs.Laws.Digits.{negative-bytes, other-bytes}
+use Rattle.operands.proofs.writing.write_signed.Statement.{statement}
+use Rattle.operands.proofs.writing.write_signed.Tie as tie
 
 magnitude-requires : tie.Need-magnitude-requires
 magnitude-requires c κs = search needs

@@ -17,7 +17,7 @@ pub fn run_table(n: usize, table: &[i32], limit: usize, image: &mut [u8], x: usi
             nodes: _,
             cells: _,
             bits: _,
-        } => image::run(&image[..length], x),
+        } => runner::run(&image[..length], x),
         Outcome::Refused(number) => Ran::Refused(number),
     }
 }
@@ -40,7 +40,7 @@ pub fn expand_table(
             nodes: _,
             cells: _,
             bits: _,
-        } => image::expand(&image[..length], values),
+        } => runner::expand(&image[..length], values),
         Outcome::Refused(number) => Expanded::Refused(number),
     }
 }

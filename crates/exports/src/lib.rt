@@ -112,7 +112,7 @@ pub extern "C" fn panstrait_walk(
 pub extern "C" fn panstrait_run(image: &[u8], x: usize, value: &mut i32, words: &mut usize) -> u8
     ensures { λ r. ⌜ RunGiven (now (image .entry)) x (now (value .entry)) (now (words .entry)) r (now (value .exit)) (now (words .exit)) ⌝ }
 {
-    let answer = image::run(image, x);
+    let answer = runner::run(image, x);
     match answer {
         image::Ran::Value {
             value: found,
@@ -131,7 +131,7 @@ pub extern "C" fn panstrait_run(image: &[u8], x: usize, value: &mut i32, words: 
 pub extern "C" fn panstrait_expand(image: &[u8], table: &mut [i32]) -> u8
     ensures { λ r. ⌜ ExpandGiven (now (image .entry)) (now (table .entry)) r (now (table .exit)) ⌝ }
 {
-    let answer = image::expand(image, table);
+    let answer = runner::expand(image, table);
     match answer {
         image::Expanded::Table => 0,
         image::Expanded::Refused(number) => number,

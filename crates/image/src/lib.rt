@@ -1,16 +1,9 @@
-// The card image and its reader: a step, Run, Expand. It knows nothing of tables.
-mod commands;
-mod evaluation;
-pub mod places;
-pub mod reading;
-mod rules;
+// The card image: its commands, the places that reading reaches, and the rules of its commands. It knows nothing of tables.
+pub mod rules;
 
 ghost use mathlib.Core.Path.{_≡_};
-ghost use Prim.Native.Nat.{_<_};
-ghost use lib.ListN.{length};
-ghost use Rattle.image.specs.Inner.Evaluation.{Accepted, cardRead, valuesTo};
-ghost use Rattle.image.specs.Run.{Expands, run, ran};
-ghost use Rattle.image.specs.Reader.{reading};
+ghost use Rattle.numbers.specs.Widths.{cellBits};
+ghost use Rattle.image.specs.Inner.Bounds.{CellFits};
 
 // A command of the image with its operands.
 pub enum Command {
@@ -77,7 +70,7 @@ pub enum Expanded {
 }
 
 // The kinds of commands.
-enum Kind {
+pub enum Kind {
     Table,
     Cell,
     Word,
@@ -85,80 +78,32 @@ enum Kind {
 }
 
 // Whether a whole image is accepted.
-enum Checked {
+pub enum Checked {
     Whole,
     Refused(u8),
 }
 
 // Where evaluation stands: the next cell, the variables left, the class, and what the cells so far gave.
-struct Progress {
-    at: usize,
-    left: usize,
-    class: usize,
-    value: i32,
-    words: usize,
+pub struct Progress {
+    pub at: usize,
+    pub left: usize,
+    pub class: usize,
+    pub value: i32,
+    pub words: usize,
 }
 
 // What evaluation gives: the value, and the words read for it.
-struct Evaluated {
-    value: i32,
-    words: usize,
+pub struct Evaluated {
+    pub value: i32,
+    pub words: usize,
 }
 
-fn run_accepted(image: &[u8], x: usize) -> Ran
-    requires { ⌜ Accepted (now image) ⌝ }
-    ensures { λ r. ⌜ ran r ≡ run (now (image .entry)) x ⌝ }
+// The memory bits of a cell.
+pub fn cell_bits(incoming: usize, group: usize, outgoing: usize, width: usize) -> usize
+    requires { ⌜ CellFits incoming group outgoing width ⌝ }
+    ensures { λ r. ⌜ r ≡ cellBits incoming group outgoing width ⌝ }
 {
-    if (1 << evaluation::variables(image)) <= x {
-        return Ran::Refused(7);
-    }
-    let evaluated = evaluation::evaluate(image, x);
-    Ran::Value {
-        value: evaluated.value,
-        words: evaluated.words,
-    }
-}
-
-// Run: the image is checked whole, then X, then one word is read in each cell.
-pub fn run(image: &[u8], x: usize) -> Ran
-    ensures { λ r. ⌜ ran r ≡ run (now (image .entry)) x ⌝ }
-{
-    match reading::check(image) {
-        Checked::Refused(number) => Ran::Refused(number),
-        Checked::Whole => run_accepted(image, x),
-    }
-}
-
-fn fill(image: &[u8], table: &mut [i32])
-    requires { ⌜ Accepted (now image) ⌝ }
-    ensures { λ r. ⌜ now (table .exit) ≡ valuesTo (cardRead (now (image .entry))) (length (now (table .entry))) ⌝ }
-{
-    let mut x = 0;
-    while x < table.len() {
-        let evaluated = evaluation::evaluate(image, x);
-        let value = evaluated.value;
-        table[x] = value;
-        x += 1;
-    }
-}
-
-fn expand_accepted(image: &[u8], table: &mut [i32]) -> Expanded
-    requires { ⌜ Accepted (now image) ⌝ }
-    ensures { λ r. ⌜ Expands (now (image .entry)) (now (table .entry)) r (now (table .exit)) ⌝ }
-{
-    if table.len() != 1 << evaluation::variables(image) {
-        return Expanded::Refused(2);
-    }
-    fill(image, table);
-    Expanded::Table
-}
-
-// Expand: the image is checked whole, then the buffer, then Run's value is written for every X.
-pub fn expand(image: &[u8], table: &mut [i32]) -> Expanded
-    ensures { λ r. ⌜ Expands (now (image .entry)) (now (table .entry)) r (now (table .exit)) ⌝ }
-{
-    match reading::check(image) {
-        Checked::Refused(number) => Expanded::Refused(number),
-        Checked::Whole => expand_accepted(image, table),
-    }
+    let address = numbers::rail_width(incoming as u32) + group;
+    let word = numbers::rail_width(outgoing as u32) + width;
+    (1 << address) * word
 }

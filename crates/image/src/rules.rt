@@ -4,12 +4,12 @@ ghost use mathlib.Core.Bool.{true, _&&_};
 ghost use Prim.Native.Nat.{_+_, _^_, _<_};
 ghost use Rattle.numbers.specs.Ranges.{isVariables, isValue};
 ghost use Rattle.image.specs.Inner.Bounds.{WithinBounds};
+ghost use Rattle.image.specs.Inner.Kinds.{isEnd};
 ghost use Rattle.image.specs.Reader.{keepsRules, widthIsLeast, endsWell};
 use crate::Command;
 use crate::Place;
-use crate::commands;
 
-pub(crate) fn table_keeps(n: usize, offset: i32) -> bool
+fn table_keeps(n: usize, offset: i32) -> bool
     ensures { λ r. ⌜ r ≡ (isVariables n && isValue offset) ⌝ }
 {
     if !numbers::is_variables(n) {
@@ -19,7 +19,7 @@ pub(crate) fn table_keeps(n: usize, offset: i32) -> bool
 }
 
 // The rules of a cell but that of its width, which is judged after its last word.
-pub(crate) fn cell_keeps(place: Place, group: usize, incoming: usize, outgoing: usize) -> bool
+fn cell_keeps(place: Place, group: usize, incoming: usize, outgoing: usize) -> bool
     requires { ⌜ WithinBounds place ⌝ }
     ensures { λ r. ⌜ r ≡ keepsRules place (Command.Cell group incoming outgoing 0) ⌝ }
 {
@@ -46,7 +46,7 @@ pub(crate) fn cell_keeps(place: Place, group: usize, incoming: usize, outgoing: 
     numbers::rail_width(incoming as u32) + group <= 12
 }
 
-pub(crate) fn word_keeps(place: Place, class: usize, weight: i32) -> bool
+fn word_keeps(place: Place, class: usize, weight: i32) -> bool
     requires { ⌜ WithinBounds place ⌝ }
     ensures { λ r. ⌜ r ≡ keepsRules place (Command.Word class weight) ⌝ }
 {
@@ -61,7 +61,7 @@ pub(crate) fn word_keeps(place: Place, class: usize, weight: i32) -> bool
     numbers::is_within(-16777215, 16777215, weight)
 }
 
-pub(crate) fn keeps_rules(place: Place, command: Command) -> bool
+pub fn keeps_rules(place: Place, command: Command) -> bool
     requires { ⌜ WithinBounds place ⌝ }
     ensures { λ r. ⌜ r ≡ keepsRules place command ⌝ }
 {
@@ -78,7 +78,7 @@ pub(crate) fn keeps_rules(place: Place, command: Command) -> bool
     }
 }
 
-pub(crate) fn width_is_least(place: Place) -> bool
+pub fn width_is_least(place: Place) -> bool
     ensures { λ r. ⌜ r ≡ widthIsLeast place ⌝ }
 {
     if 0 < place.words {
@@ -87,11 +87,30 @@ pub(crate) fn width_is_least(place: Place) -> bool
     place.width == numbers::weight_width(place.least, place.greatest)
 }
 
-pub(crate) fn ends_well(image: &[u8], place: Place, command: Command) -> bool
+pub fn is_end(command: Command) -> bool
+    ensures { λ r. ⌜ r ≡ isEnd command ⌝ }
+{
+    match command {
+        Command::Table { n: _, offset: _ } => false,
+        Command::Cell {
+            group: _,
+            incoming: _,
+            outgoing: _,
+            width: _,
+        } => false,
+        Command::Word {
+            class: _,
+            weight: _,
+        } => false,
+        Command::End { bits: _ } => true,
+    }
+}
+
+pub fn ends_well(image: &[u8], place: Place, command: Command) -> bool
     requires { ⌜ place .at < 2 ^ 63 ⌝ }
     ensures { λ r. ⌜ r ≡ endsWell (now (image .entry)) place command ⌝ }
 {
-    if commands::is_end(command) {
+    if is_end(command) {
         return image.len() == place.at + 5;
     }
     true

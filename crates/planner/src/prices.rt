@@ -74,7 +74,7 @@ pub(crate) fn cell_price(
     let incoming = counts[h];
     let outgoing = counts[h + g];
     let width = cell_width(n, h, g, incoming, table, firsts);
-    image::places::cell_bits(incoming, g, outgoing, width)
+    image::cell_bits(incoming, g, outgoing, width)
 }
 
 // Whether the cell from cut h that takes g variables keeps to the address limit.

@@ -1,0 +1,70 @@
+// The reader's step, and its repetition over a whole image.
+ghost use mathlib.Core.Path.{_≡_};
+ghost use Prim.Native.Nat.{_<_};
+ghost use Rattle.numbers.specs.Answers.{mapAnswer};
+ghost use Rattle.image.specs.Inner.Bounds.{WithinBounds, IsDue};
+ghost use Rattle.image.specs.Inner.Kinds.{checked};
+ghost use Rattle.image.specs.Reader.{judged, step, stepped, reading};
+use image::Checked;
+use image::Command;
+use image::Place;
+use image::Step;
+use crate::commands;
+use crate::places;
+use image::rules;
+
+// What is judged of a command whose operands are all there.
+fn judge(image: &[u8], place: Place, command: Command) -> Step
+    requires { ⌜ IsDue place command ⌝ }
+    ensures { λ r. ⌜ stepped r ≡ judged (now (image .entry)) place command ⌝ }
+{
+    if rules::keeps_rules(place, command) {
+        if rules::ends_well(image, place, command) {
+            return Step::Read(command, places::place_after(place, command));
+        }
+        return Step::Refused(14);
+    }
+    Step::Refused(13)
+}
+
+// One step of the reader, in the paper's order of checks.
+pub fn read_step(image: &[u8], place: Place) -> Step
+    requires { ⌜ WithinBounds place ⌝ }
+    ensures { λ r. ⌜ stepped r ≡ step (now (image .entry)) place ⌝ }
+{
+    if !rules::width_is_least(place) {
+        return Step::Refused(13);
+    }
+    let at = place.at;
+    if image.len() <= at {
+        return Step::Refused(11);
+    }
+    let kind = commands::due_kind(place);
+    if operands::byte(image, at) != commands::command_byte(kind) {
+        return Step::Refused(12);
+    }
+    if image.len() - at < commands::command_size(kind) {
+        return Step::Refused(11);
+    }
+    judge(image, place, commands::command_at(image, at, kind))
+}
+
+// The image is checked from the left, a step at a time.
+pub fn check(image: &[u8]) -> Checked
+    ensures { λ r. ⌜ checked r ≡ mapAnswer (λ commands. tt) (reading (now (image .entry))) ⌝ }
+{
+    let mut place = places::start_place();
+    loop {
+        match read_step(image, place) {
+            Step::Refused(number) => {
+                return Checked::Refused(number);
+            }
+            Step::Read(command, next) => {
+                if rules::is_end(command) {
+                    return Checked::Whole;
+                }
+                place = next;
+            }
+        }
+    }
+}

@@ -13,7 +13,7 @@ ghost use Rattle.diagram.specs.Records.{branches};
 use crate::Fork;
 
 // The weight of block j, whose halves have height i.
-pub(crate) fn weight_of_block(table: &[i32], i: usize, j: usize) -> i32
+fn weight_of_block(table: &[i32], i: usize, j: usize) -> i32
     requires { ⌜ every isValue (now table) ≡ true ⌝ }
     requires { ⌜ (i < 64) × ((j * 2 + 1) * 2 ^ i < length (now table)) ⌝ }
     ensures { λ r. ⌜ r ≡ first (block (now (table .entry)) i (j * 2 + 1)) -ℤ first (block (now (table .entry)) i (j * 2)) ⌝ }
@@ -23,7 +23,7 @@ pub(crate) fn weight_of_block(table: &[i32], i: usize, j: usize) -> i32
 
 // Whether block j, whose halves have height i, branches: its upper half, the part that begins in its middle, differs from
 // its lower half.
-pub(crate) fn block_branches(table: &[i32], i: usize, j: usize) -> bool
+fn block_branches(table: &[i32], i: usize, j: usize) -> bool
     requires { ⌜ (i < 63) × (j * 2 ^ suc i + 2 ^ suc i ≤ length (now table)) ⌝ }
     ensures { λ r. ⌜ r ≡ branches i (block (now (table .entry)) (suc i) j) ⌝ }
 {
@@ -43,7 +43,7 @@ pub fn class_branches(n: usize, h: usize, c: usize, table: &[i32], firsts: &[usi
 }
 
 // The fork of class c of cut h, read at the class's first block.
-pub(crate) fn fork_at(
+pub fn fork_at(
     n: usize,
     h: usize,
     c: usize,

@@ -1,13 +1,7 @@
-// The reduced edge-valued decision diagram of a table: Build and Walk.
-mod building;
+// The reduced edge-valued decision diagram of a table: its definitions, the checks on a table, and what its nodes are made of.
 pub mod forks;
-mod lists;
+pub mod records;
 pub mod tables;
-mod walking;
-
-ghost use mathlib.Core.Path.{_≡_};
-ghost use Rattle.diagram.specs.Build.{Builds};
-ghost use Rattle.diagram.specs.Walk.{walk, walked};
 
 // Build's answer. The records stand in the lent buffer.
 pub enum Built {
@@ -28,44 +22,15 @@ pub enum Walked {
 }
 
 // What reading a variable at a node gives: a weight, and the next node.
-struct Edge {
-    weight: i32,
-    node: usize,
-}
-
-// The value that a record list gives at X.
-pub fn walk(n: usize, offset: i32, records: &[i32], x: usize) -> Walked
-    ensures { λ r. ⌜ walked r ≡ walk n offset (now (records .entry)) x ⌝ }
-{
-    if !numbers::is_variables(n) {
-        return Walked::Refused(1);
-    }
-    if !numbers::is_within(-8388608, 8388607, offset) {
-        return Walked::Refused(5);
-    }
-    if !lists::list_fits(n, records) {
-        return Walked::Refused(6);
-    }
-    if x >= numbers::power(n) {
-        return Walked::Refused(7);
-    }
-    Walked::Value(walking::walk_value(n, offset, records, x))
+pub struct Edge {
+    pub weight: i32,
+    pub node: usize,
 }
 
 // What Build learns of a class: the nodes of its halves, its weight, and whether it branches.
-struct Fork {
-    low: usize,
-    high: usize,
-    weight: i32,
-    branching: bool,
-}
-
-// The reduced diagram of a table: its records in the lent buffer, its node count and its offset.
-pub fn build(n: usize, table: &[i32], nodes: &mut [i32]) -> Built
-    ensures { λ r. ⌜ Builds n (now (table .entry)) (now (nodes .entry)) r (now (nodes .exit)) ⌝ }
-{
-    match tables::check_table(n, table) {
-        Checked::Refused(number) => Built::Refused(number),
-        Checked::Passed => building::build_checked(n, table, nodes),
-    }
+pub struct Fork {
+    pub low: usize,
+    pub high: usize,
+    pub weight: i32,
+    pub branching: bool,
 }

@@ -72,7 +72,7 @@ pub extern "C" fn panstrait_build(
 ) -> u8
     ensures { λ r. ⌜ BuildGiven n (now (table .entry)) (now (nodes .entry)) (now (count .entry)) (now (offset .entry)) r (now (nodes .exit)) (now (count .exit)) (now (offset .exit)) ⌝ }
 {
-    let answer = diagram::build(n, table, nodes);
+    let answer = builder::build(n, table, nodes);
     match answer {
         diagram::Built::Diagram {
             nodes: total,
@@ -97,7 +97,7 @@ pub extern "C" fn panstrait_walk(
 ) -> u8
     ensures { λ r. ⌜ WalkGiven n offset (now (records .entry)) x (now (value .entry)) r (now (value .exit)) ⌝ }
 {
-    let answer = diagram::walk(n, offset, records, x);
+    let answer = walker::walk(n, offset, records, x);
     match answer {
         diagram::Walked::Value(found) => {
             *value = found;

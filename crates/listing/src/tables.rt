@@ -22,7 +22,7 @@ fn write_table(
     ensures { λ r. ⌜ Writes (now (text .entry)) 0 (tableText n (now (table .entry)) (groups cells count)) r (now (text .exit)) ⌝ }
 {
     let mut nodes = [0i32; 16380];
-    match diagram::build(n, table, &mut nodes) {
+    match builder::build(n, table, &mut nodes) {
         diagram::Built::Refused(number) => texts::write_refusal(text, number),
         diagram::Built::Diagram { nodes: all, offset } => {
             let next = texts::write_diagram(text, n, offset, &nodes, all - 1);

@@ -1,5 +1,3 @@
 -- What inner functions promise and hold.
-pub mod Extremes
 pub mod Listed
-pub mod Ready
 pub mod Rows

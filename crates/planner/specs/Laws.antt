@@ -1,7 +1,5 @@
 -- Laws about the definitions of this crate, which proofs cite.
-pub mod Choosing
 pub mod Leading
 pub mod Listed
 pub mod Plans
-pub mod Pricing
 pub mod Rows

@@ -25,7 +25,7 @@ use Rattle.cascade.specs.Laws.Groupings.{grouping-length}
 use Rattle.cascade.specs.Laws.Cells.{variables-most, cell-words}
 use Rattle.cascade.specs.Laws.Lengths.{image-length}
 use Rattle.planner.specs.Laws.Plans.{groups-back}
-use Rattle.planner.specs.Laws.Pricing.{words-most}
+use Rattle.choices.specs.Laws.Pricing.{words-most}
 use Rattle.writer.specs.Inner.Writing.{groups, CellsPlanned}
 use Rattle.compiler.specs.Inner.Lengths.{plannedBytes, plannedLength, SmallCell, SmallCells}
 use Rattle.compiler.specs.Inner.Planned.{PlannedAs}

@@ -1,11 +1,11 @@
--- `planner::choices::offer` meets its contract. Assumes nothing.
+-- `choices::offer` meets its contract. Assumes nothing.
 use mathlib.Core.Path.{sym, _∙_, ap}
 use native.Mathlib.Omega.{arith}
 use mir.Facts.{fits-of-lt}
 use borrow.Author.Needs.{needs}
 use Rattle.cascade.specs.Inner.Choices.{offered, costOf}
-use Rattle.planner.proofs.choices.offer.Statement.{statement}
-use Rattle.planner.proofs.choices.offer.Tie as tie
+use Rattle.choices.proofs.offer.Statement.{statement}
+use Rattle.choices.proofs.offer.Tie as tie
 
 enum-told : tie.Need-enum-told
 enum-told c = search needs

@@ -1,10 +1,10 @@
--- `planner::choices::cheaper` meets its contract. Assumes nothing.
+-- `choices::cheaper` meets its contract. Assumes nothing.
 use mathlib.Core.Path.{sym, _∙_, ap}
 use borrow.Author.Needs.{needs}
 use borrow.Author.Tests.{lt-ltb, le-ltb}
 use Rattle.cascade.specs.Inner.Choices.{taken}
-use Rattle.planner.proofs.choices.cheaper.Statement.{statement}
-use Rattle.planner.proofs.choices.cheaper.Tie as tie
+use Rattle.choices.proofs.cheaper.Statement.{statement}
+use Rattle.choices.proofs.cheaper.Tie as tie
 
 enum-told : tie.Need-enum-told
 enum-told c = search needs

@@ -1,4 +1,4 @@
--- `planner::choices::choose` meets its contract. The loop's invariant: the sizes still to be tried lead to the choice. Assumes nothing.
+-- `choices::choose` meets its contract. The loop's invariant: the sizes still to be tried lead to the choice. Assumes nothing.
 use Prim.Native.Nat.{_+_, _-_, _≤_}
 use mathlib.Core.Path.{sym, _∙_, ap}
 use mathlib.Core.Logic.{⊎-elim}
@@ -7,10 +7,10 @@ use lib.ListN.{getD}
 use mir.Facts.{fits-of-lt}
 use Rattle.cascade.specs.Inner.Choices.{offered}
 use Rattle.cascade.specs.declared.Choice.the-variants.{NoList}
-use Rattle.planner.specs.Laws.Pricing.{address-ready, fits-is}
-use Rattle.planner.specs.Laws.Choosing.{Trying, trying-all, size-ready, tried-fitting, tried-unfitting, tried-all, cuts-small, offer-small}
-use Rattle.planner.proofs.choices.choose.Statement.{statement}
-use Rattle.planner.proofs.choices.choose.Tie as tie
+use Rattle.choices.specs.Laws.Pricing.{address-ready, fits-is}
+use Rattle.choices.specs.Laws.Choosing.{Trying, trying-all, size-ready, tried-fitting, tried-unfitting, tried-all, cuts-small, offer-small}
+use Rattle.choices.proofs.choose.Statement.{statement}
+use Rattle.choices.proofs.choose.Tie as tie
 
 abbrev Inv-loop : tie.InvT-loop
 Inv-loop n h limit table firsts counts choices best₀ g₀ best g = Trying n h limit table choices best g

@@ -1,4 +1,4 @@
--- `planner::prices::class_extremes` meets its contract. The loop's invariant: the extremes with the words so far. Assumes nothing.
+-- `choices::prices::class_extremes` meets its contract. The loop's invariant: the extremes with the words so far. Assumes nothing.
 use Prim.Native.Nat.{ℕ, suc, _+_, _-_, _*_, _^_, _≤_, _<_}
 use mathlib.Core.Path.{_≡_, sym, _∙_, ap, ap₂}
 use native.Mathlib.Nat.{add-zero}
@@ -13,10 +13,10 @@ use borrow.Author.Needs.{needs, sfits-of}
 use Rattle.numbers.specs.Ranges.{lesser, greater}
 use Rattle.blocks.specs.Inner.Layout.{cutPlace}
 use Rattle.cascade.specs.Inner.Words.{cellWord}
-use Rattle.planner.specs.Inner.Extremes.{extremesOf}
-use Rattle.planner.specs.Laws.Pricing.{cut-small, group-small, end-small, height-small, lower-small, first-place, from-inside, weight-inside, weight-at, weight-small, one-of-words, extremes-next, values-most, values-below}
-use Rattle.planner.proofs.prices.class_extremes.Statement.{statement}
-use Rattle.planner.proofs.prices.class_extremes.Tie as tie
+use Rattle.choices.specs.Inner.Extremes.{extremesOf}
+use Rattle.choices.specs.Laws.Pricing.{cut-small, group-small, end-small, height-small, lower-small, first-place, from-inside, weight-inside, weight-at, weight-small, one-of-words, extremes-next, values-most, values-below}
+use Rattle.choices.proofs.prices.class_extremes.Statement.{statement}
+use Rattle.choices.proofs.prices.class_extremes.Tie as tie
 
 abbrev Inv-loop : tie.InvT-loop
 Inv-loop n h g class table firsts values step start from least₀ greatest₀ v₀ least greatest v = (v ≤ 2 ^ g) × (record { least = toZ w32 least; greatest = toZ w32 greatest } ≡ extremesOf n table h g (class * 2 ^ g + v))

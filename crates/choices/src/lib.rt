@@ -1,10 +1,17 @@
-// The choice at each cut, from the bottom cut up.
+// What a cell costs, and the choice at each cut, from the bottom cut up.
+mod prices;
+
 ghost use mathlib.Core.Path.{_≡_};
 ghost use Prim.Native.Nat.{_+_, _^_, _<_};
 ghost use Rattle.cascade.specs.Inner.Choices.{taken, offered, costOf, tableChoice, choiceArray};
-ghost use Rattle.planner.specs.Inner.Ready.{RowsKnown, CutReady};
-use crate::prices;
+ghost use Rattle.choices.specs.Inner.Ready.{RowsKnown, CutReady};
 use cascade::Choice;
+
+// The least and the greatest of the weights so far, and of 0.
+struct Extremes {
+    least: i32,
+    greatest: i32,
+}
 
 // The choice so far, unless a size costs less.
 fn cheaper(size: usize, cost: usize, so_far: Choice) -> Choice
@@ -66,7 +73,7 @@ fn choose(
 }
 
 // The choices at all cuts, from the bottom cut up.
-pub(crate) fn choose_all(
+pub fn choose_all(
     n: usize,
     limit: usize,
     table: &[i32],

@@ -8,8 +8,8 @@ ghost use Rattle.blocks.specs.Classes.{classCount};
 ghost use Rattle.blocks.specs.Inner.Layout.{allCounts};
 ghost use Rattle.cascade.specs.Cascade.{cellOf};
 ghost use Rattle.cascade.specs.Inner.Choices.{cellPrice};
-ghost use Rattle.planner.specs.Inner.Ready.{CellReady, AddressReady};
-ghost use Rattle.planner.specs.Inner.Extremes.{extremesOf};
+ghost use Rattle.choices.specs.Inner.Ready.{CellReady, AddressReady};
+ghost use Rattle.choices.specs.Inner.Extremes.{extremesOf};
 use crate::Extremes;
 
 // The extremes of the weights so far and of those of one class more, whose words stand for the parts of its first block.

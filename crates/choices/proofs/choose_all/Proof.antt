@@ -1,12 +1,12 @@
--- `planner::choices::choose_all` meets its contract. The loop's invariant: the choices from cut h down are made. Assumes nothing.
+-- `choices::choose_all` meets its contract. The loop's invariant: the choices from cut h down are made. Assumes nothing.
 use Prim.Native.Nat.{_≤_}
 use mathlib.Core.Path.{_≡_}
 use native.Mathlib.Omega.{arith}
 use mir.Facts.{fits-of-lt}
 use Rattle.cascade.specs.Laws.Cells.{variables-most}
-use Rattle.planner.specs.Laws.Choosing.{ChosenFrom, chosen-bottom, chosen-next, chosen-all, cut-ready}
-use Rattle.planner.proofs.choices.choose_all.Statement.{statement}
-use Rattle.planner.proofs.choices.choose_all.Tie as tie
+use Rattle.choices.specs.Laws.Choosing.{ChosenFrom, chosen-bottom, chosen-next, chosen-all, cut-ready}
+use Rattle.choices.proofs.choose_all.Statement.{statement}
+use Rattle.choices.proofs.choose_all.Tie as tie
 
 abbrev Inv-loop : tie.InvT-loop
 Inv-loop n limit table firsts counts choices₀ h₀ choices h = ChosenFrom n limit table h choices

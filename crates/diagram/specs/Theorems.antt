@@ -2,12 +2,13 @@
 use Prim.Native.Nat.{ℕ, suc, _-_, _*_, _%_, _^_, _≤_, _<_}
 use mathlib.Core.Path.{_≡_, sym, _∙_, ap, ap₂}
 use mathlib.Core.Logic.{_↔_}
-use mathlib.Core.Bool.{true}
+use mathlib.Core.Bool.{true, false}
 use mathlib.Core.List.{List, _++_, map, flatMap}
 use native.Mathlib.Omega.{arith}
 use lib.ListN.{length, getD, drop}
 use lib.IntN.{ℤ, pos, _+ℤ_, _-ℤ_}
 use Rattle.numbers.specs.Answers.{accepted, refused}
+use Rattle.numbers.specs.Ranges.{isVariables, isValue}
 use Rattle.blocks.specs.Blocks.{block, first, differences}
 use Rattle.diagram.specs.Accepted.{Accepted, written, nodeFunction}
 use Rattle.diagram.specs.Build.{nodeRoom, Summary, summaryOf, buildAnswer, buildBuffer, recordPart}
@@ -49,6 +50,11 @@ refused-build-leaves = refused-kept
 -- The records of an accepted table pass Walk's check.
 pub records-pass : (n : ℕ) (table : List ℤ) → Accepted n table → listFits n (written n table) ≡ true
 records-pass n table a = list-fits n table (a .size) (a .values)
+
+-- A list that fails its check is refused for that at every X, one past the table too.
+pub list-before-x : (n : ℕ) (start : ℤ) (list : List ℤ) → isVariables n ≡ true → isValue start ≡ true → listFits n list ≡ false → (x : ℕ) → walk n start list x ≡ refused 6
+unfolding walk
+list-before-x n start list inside ranged unfit x = rw (inside, ranged, unfit)
 
 -- Walking them gives f(X) at every X below 2^n.
 pub walk-gives-table : (n : ℕ) (table : List ℤ) → Accepted n table → (x : ℕ) → x < 2 ^ n → walk n (offset table) (written n table) x ≡ accepted (getD table x (pos 0))

@@ -1,4 +1,5 @@
 -- Laws about the definitions of this crate, which proofs cite.
+pub mod Apart
 pub mod Decimals
 pub mod Digits
 pub mod Pieces

@@ -1,4 +1,6 @@
 -- Laws about the definitions of this crate, which proofs cite.
+pub mod Apart
+pub mod Inputs
 pub mod Lengths
 pub mod Listed
 pub mod Texts

@@ -6,9 +6,12 @@ use mathlib.Core.List.{List, _++_}
 use lib.ListN.{length, drop}
 use lib.Dec.{leb}
 use Rattle.listing.specs.Listing.{listing}
-use Rattle.listing.specs.Inner.Listed.{textRoom}
 use Rattle.listing.specs.declared.Listed.{Listed}
 use Rattle.listing.specs.declared.Listed.the-variants.{Text, TooShort}
+
+-- The bytes of a text buffer that holds the text of every input.
+unfoldable pub textRoom : ℕ
+textRoom = 225943
 
 -- The text's length; a buffer that does not hold the text of every input is too short.
 unfoldable pub listAnswer : List ℕ → ℕ → Listed

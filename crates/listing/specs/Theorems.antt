@@ -3,21 +3,26 @@
 use Prim.Native.Nat.{ℕ, _+_, _*_, _^_, _≤_, _<_}
 use mathlib.Core.Path.{_≡_, sym, _∙_, ap}
 use mathlib.Core.Bool.{true, false}
-use mathlib.Core.List.{List, [], _∷_}
+use mathlib.Core.List.{List, [], _∷_, flatMap}
 use native.Mathlib.Omega.{arith}
 use lib.ListN.{length, getD, take}
 use lib.Seq.{length-take-le, take-all, getD-take}
 use lib.Dec.{leb}
-use lib.IntN.{ℤ}
+use lib.IntN.{ℤ, pos, negℤ}
 use borrow.Author.Tests.{leb-true, leb-false}
 use Rattle.numbers.specs.Answers.{Answer, accepted, refused}
 use Rattle.numbers.specs.Lists.{every}
-use Rattle.numbers.specs.Ranges.{isVariables, isLimit, isValue}
+use Rattle.numbers.specs.Ranges.{within, isVariables, isLimit, isValue}
 use Rattle.numbers.specs.Laws.Bools.{yes-or-no}
+use Rattle.operands.specs.Bytes.{signedBytes}
 use Rattle.cascade.specs.Groupings.{BestGrouping, chosen, fits, isGrouping}
 use Rattle.cascade.specs.Laws.Chosen.{chosen-refuses, best-chosen}
+use Rattle.lines.specs.Reading.{readLines}
 use Rattle.listing.specs.Listing.{tableOf, listed, tableText, answerText, listing}
 use Rattle.lines.specs.Text.{ascii, decimalDigits, decimal, fields, line}
+use Rattle.listing.specs.Lines.{tableLines}
+use Rattle.listing.specs.Laws.Apart.{text-apart}
+use Rattle.listing.specs.Laws.Inputs.{input-back}
 use Rattle.listing.specs.Laws.Lengths.{listing-length}
 use Rattle.listing.specs.Laws.Listed.{listed-under-two, listed-outside, listed-miscounted, listed-counted, listed-refused, listed-too-long}
 
@@ -83,6 +88,18 @@ module _ (input : List ℕ) where
           pub best-listed : (best : List ℕ) → BestGrouping n values limit best → listing input ≡ tableText n values best
           unfolding answerText
           best-listed best b = printed (accepted best) (chosen-listed ∙ best-chosen n values limit best b)
+
+-- ---- the text taken apart
+
+-- The lines of a table's text, with their fields, give n, offset, the records, the node count, the cells and the total back.
+pub text-read-back : (n : ℕ) (table : List ℤ) (sizes : List ℕ) → readLines (tableText n table sizes) ≡ tableLines n table sizes
+text-read-back = text-apart
+
+-- ---- the input of a table
+
+-- n, A, then the values, 4 bytes each: the table is read back.
+pub input-read-back : (n limit : ℕ) (table : List ℤ) → every (within (negℤ (pos 2147483648)) (pos 2147483647)) table ≡ true → tableOf (n ∷ limit ∷ flatMap signedBytes table) ≡ table
+input-read-back = input-back
 
 -- ---- lengths
 

@@ -8,8 +8,8 @@ ghost use lib.ListN.{length};
 ghost use Rattle.numbers.specs.Inner.Rows.{overwritten};
 ghost use Rattle.cascade.specs.Plan.{plan};
 ghost use Rattle.listing.specs.Listing.{tableOf, answerText, listing};
-ghost use Rattle.listing.specs.Program.{Lists};
-ghost use Rattle.listing.specs.Inner.Listed.{textRoom, InputCounted};
+ghost use Rattle.listing.specs.Program.{textRoom, Lists};
+ghost use Rattle.listing.specs.Inner.Listed.{InputCounted};
 ghost use Rattle.lines.specs.Inner.Writing.{Writes};
 
 // The bytes of a buffer that holds the text of every input.

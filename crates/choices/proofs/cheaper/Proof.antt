@@ -20,13 +20,15 @@ returns-2 : tie.Need-returns-2
 unfolding taken
 returns-2 c =
     let a = c .before .before .before .before .args in
-    sym (ap (taken (a .size) (a .cost)) (c .before .before .so-far .given .1) ∙ rw (lt-ltb _ _ (c .if1 .taken), taken))
+    let least = c .before .before .so-far .given .0 .0 in
+    sym (ap (taken (a .size) (a .cost)) (c .before .before .so-far .given .1) ∙ rw (lt-ltb (a .cost) least (c .if1 .taken), taken))
 
 returns-3 : tie.Need-returns-3
 unfolding taken
 returns-3 c =
     let a = c .before .before .before .before .args in
-    sym (ap (taken (a .size) (a .cost)) (c .before .before .so-far .given .1) ∙ rw (le-ltb _ _ (c .if1 .left), taken))
+    let least = c .before .before .so-far .given .0 .0 in
+    sym (ap (taken (a .size) (a .cost)) (c .before .before .so-far .given .1) ∙ rw (le-ltb (a .cost) least (c .if1 .left), taken))
 
 pub cheaper-spec : {M : Type 1} → statement M
 cheaper-spec = tie.close (tie.spec enum-told enum-known-so-far returns returns-2 returns-3)

@@ -64,7 +64,7 @@ module _ (n : ℕ) (table : List ℤ) where
 
   pub build-refused : (nodes : List ℤ) (k : ℕ) → build n table (length nodes) ≡ refused k → Builds n table nodes (Refused k) nodes
   unfolding built buildAnswer buildBuffer
-  build-refused nodes k e = record { answered = rw e; left = rw e }
+  build-refused nodes k e = record { answered = rw e; left = sym (ap (λ a. bufferAfter a (flatMap recordNumbers) nodes) e) }
 
   -- The checks' own refusal, and that of a short buffer.
   pub build-unfit : (nodes : List ℤ) (k : ℕ) → tableChecks n table ≡ refused k → Builds n table nodes (Refused k) nodes

@@ -5,9 +5,8 @@ use lib.ListN.{length}
 use borrow.Author.Tests.{le-leb, lt-leb}
 use Rattle.numbers.specs.Laws.Rows.{overwritten-front}
 use Rattle.listing.specs.Listing.{listing}
-use Rattle.listing.specs.Program.{listAnswer, listBuffer}
+use Rattle.listing.specs.Program.{textRoom, listAnswer, listBuffer}
 use Rattle.listing.specs.declared.Listed.the-variants.{Text}
-use Rattle.listing.specs.Inner.Listed.{textRoom}
 use borrow.Author.Needs.{needs}
 use Rattle.listing.proofs.list.Statement.{statement}
 use Rattle.listing.proofs.list.Tie as tie

@@ -8,10 +8,7 @@ use Rattle.diagram.specs.Accepted.{Accepted}
 use Rattle.cascade.specs.declared.Cell.{Cell}
 use Rattle.writer.specs.Inner.Writing.{groups}
 use Rattle.compiler.specs.Inner.Planned.{PlannedAs}
-
--- The bytes of a text buffer that holds the text of every input.
-unfoldable pub textRoom : ℕ
-textRoom = 225943
+use Rattle.listing.specs.Program.{textRoom}
 
 -- An accepted table, its planned cells, and a buffer that holds every text.
 pub record TextReady (n : ℕ) (table : List ℤ) (cells : List Cell) (count bits : ℕ) (text : List ℕ) : Type 0 where

@@ -37,7 +37,8 @@ use Rattle.compiler.specs.Inner.Planned.{PlannedAs}
 use Rattle.compiler.specs.Laws.Planned.{front, groups-are, small-cells, plan-chosen}
 use Rattle.listing.specs.Listing.{nodeLine, nodeLines, cellLine, tableText}
 use Rattle.lines.specs.Text.{ascii, line}
-use Rattle.listing.specs.Inner.Listed.{textRoom, TextReady}
+use Rattle.listing.specs.Inner.Listed.{TextReady}
+use Rattle.listing.specs.Program.{textRoom}
 use Rattle.listing.specs.Laws.Lengths.{line-length, count-field}
 use Rattle.texts.specs.Inner.Lines.{recordLine, recordLines, planLine, planLines, diagramText, cascadeText, RecordsThere, CellSmall, CellsSmall}
 

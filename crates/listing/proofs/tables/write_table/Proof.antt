@@ -14,7 +14,7 @@ use Rattle.cascade.specs.Laws.Cells.{variables-most}
 use Rattle.writer.specs.Inner.Writing.{groups}
 use Rattle.listing.specs.Listing.{tableText}
 use Rattle.texts.specs.Inner.Lines.{diagramText, cascadeText, RecordsThere}
-use Rattle.listing.specs.Inner.Listed.{textRoom}
+use Rattle.listing.specs.Program.{textRoom}
 use Rattle.lines.specs.Inner.Writing.{Writes}
 use Rattle.listing.specs.Laws.Lengths.{table-text-length}
 use Rattle.listing.specs.Laws.Texts.{most-nodes, never-refused, summary-is, records-left, records-there, planned-small, bits-small, whole-text}

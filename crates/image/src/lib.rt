@@ -1,5 +1,4 @@
 // The card image: its commands, the places that reading reaches, and the rules of its commands. It knows nothing of tables.
-pub mod rules;
 
 ghost use mathlib.Core.Path.{_≡_};
 ghost use Rattle.numbers.specs.Widths.{cellBits};

@@ -11,7 +11,6 @@ use image::Place;
 use image::Step;
 use crate::commands;
 use crate::places;
-use image::rules;
 
 // What is judged of a command whose operands are all there.
 fn judge(image: &[u8], place: Place, command: Command) -> Step

@@ -1,13 +1,13 @@
--- `image::rules::keeps_rules` meets its contract, command by command. Assumes nothing.
+-- `rules::keeps_rules` meets its contract, command by command. Assumes nothing.
 use mathlib.Core.Bool.{_&&_}
 use mathlib.Core.Path.{sym, _∙_, ap}
 use mir.Facts.{toZ-ofZ}
 use borrow.Author.Needs.{needs}
 use Rattle.numbers.specs.Ranges.{isVariables, isValue}
 use Rattle.image.specs.declared.Command.the-variants.{Word}
 use Rattle.image.specs.Reader.{keepsRules}
-use Rattle.image.proofs.rules.keeps_rules.Statement.{statement}
-use Rattle.image.proofs.rules.keeps_rules.Tie as tie
+use Rattle.rules.proofs.keeps_rules.Statement.{statement}
+use Rattle.rules.proofs.keeps_rules.Tie as tie
 
 enum-known-command : tie.Need-enum-known-command
 enum-known-command c = search needs

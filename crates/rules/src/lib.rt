@@ -1,13 +1,13 @@
-// The operand rules, for each command.
+// What the reader judges of a command whose operands are all there: the operand rules, the least width, the image's end.
 ghost use mathlib.Core.Path.{_≡_};
 ghost use mathlib.Core.Bool.{true, _&&_};
 ghost use Prim.Native.Nat.{_+_, _^_, _<_};
 ghost use Rattle.numbers.specs.Ranges.{isVariables, isValue};
 ghost use Rattle.image.specs.Inner.Bounds.{WithinBounds};
 ghost use Rattle.image.specs.Inner.Kinds.{isEnd};
 ghost use Rattle.image.specs.Reader.{keepsRules, widthIsLeast, endsWell};
-use crate::Command;
-use crate::Place;
+use image::Command;
+use image::Place;
 
 fn table_keeps(n: usize, offset: i32) -> bool
     ensures { λ r. ⌜ r ≡ (isVariables n && isValue offset) ⌝ }

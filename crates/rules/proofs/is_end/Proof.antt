@@ -1,9 +1,9 @@
--- `image::rules::is_end` meets its contract, command by command. Assumes nothing.
+-- `rules::is_end` meets its contract, command by command. Assumes nothing.
 use mathlib.Core.Path.{sym, ap}
 use borrow.Author.Needs.{needs}
 use Rattle.image.specs.Inner.Kinds.{isEnd}
-use Rattle.image.proofs.rules.is_end.Statement.{statement}
-use Rattle.image.proofs.rules.is_end.Tie as tie
+use Rattle.rules.proofs.is_end.Statement.{statement}
+use Rattle.rules.proofs.is_end.Tie as tie
 
 enum-told : tie.Need-enum-told
 enum-told c = search needs

@@ -1,12 +1,12 @@
--- `image::rules::table_keeps` meets its contract. Assumes nothing.
+-- `rules::table_keeps` meets its contract. Assumes nothing.
 use mathlib.Core.Path.{sym, _∙_, ap}
 use lib.IntN.{pos, negℤ}
 use mir.Facts.{toZ-ofZ}
 use borrow.Author.Needs.{needs}
 use borrow.Author.Tests.{not-true, not-false}
 use Rattle.numbers.specs.Ranges.{isValue, within}
-use Rattle.image.proofs.rules.table_keeps.Statement.{statement}
-use Rattle.image.proofs.rules.table_keeps.Tie as tie
+use Rattle.rules.proofs.table_keeps.Statement.{statement}
+use Rattle.rules.proofs.table_keeps.Tie as tie
 
 is-variables-requires : tie.Need-is-variables-requires
 is-variables-requires c κs = search needs

@@ -1,4 +1,4 @@
--- `image::rules::word_keeps` meets its contract. Assumes nothing.
+-- `rules::word_keeps` meets its contract. Assumes nothing.
 use Prim.Native.Nat.{_<_}
 use mathlib.Core.Path.{sym, _∙_, ap}
 use mathlib.Core.Logic.{⊎-elim}
@@ -13,12 +13,12 @@ use borrow.Author.Needs.{needs}
 use Rattle.numbers.specs.Ranges.{mostVariables, isWeight, within}
 use Rattle.numbers.specs.Laws.Machine.{same-bits}
 use Rattle.numbers.specs.Laws.Pieces.{shifted-one}
 use Rattle.image.specs.Inner.Bounds.{WithinBounds}
 use Rattle.image.specs.Reader.{keepsRules}
 use Rattle.image.specs.Laws.Rules.{word-decides, word-ungrounded}
 use Rattle.image.specs.declared.Place.{Place}
-use Rattle.image.proofs.rules.word_keeps.Statement.{statement}
-use Rattle.image.proofs.rules.word_keeps.Tie as tie
+use Rattle.rules.proofs.word_keeps.Statement.{statement}
+use Rattle.rules.proofs.word_keeps.Tie as tie
 
 -- A group is narrower than a machine word.
 narrow : (p : Place) → WithinBounds p → p .group < 64

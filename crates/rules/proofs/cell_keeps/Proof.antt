@@ -1,4 +1,4 @@
--- `image::rules::cell_keeps` meets its contract. Assumes nothing.
+-- `rules::cell_keeps` meets its contract. Assumes nothing.
 use Prim.Native.Nat.{_+_}
 use mathlib.Core.Path.{sym, _∙_, ap}
 use mathlib.Core.Bool.{and-false}
@@ -10,10 +10,10 @@ use borrow.Author.Tests.{lt-leb, ne-eqb, le-ltb}
 use borrow.Author.Needs.{needs}
 use Rattle.numbers.specs.Ranges.{mostVariables, widestAddress}
 use Rattle.numbers.specs.Laws.Widths.{rail-width-least}
 use Rattle.image.specs.Reader.{keepsRules, mostClasses}
 use Rattle.image.specs.Laws.Rules.{shape-decides}
-use Rattle.image.proofs.rules.cell_keeps.Statement.{statement}
-use Rattle.image.proofs.rules.cell_keeps.Tie as tie
+use Rattle.rules.proofs.cell_keeps.Statement.{statement}
+use Rattle.rules.proofs.cell_keeps.Tie as tie
 
 returns : tie.Need-returns
 unfolding keepsRules

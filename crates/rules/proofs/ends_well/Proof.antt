@@ -1,9 +1,9 @@
--- `image::rules::ends_well` meets its contract. Assumes nothing.
+-- `rules::ends_well` meets its contract. Assumes nothing.
 use mathlib.Core.Path.{sym, _∙_}
 use borrow.Author.Needs.{needs}
 use Rattle.image.specs.Laws.Due.{ends-well-last, ends-well-before}
-use Rattle.image.proofs.rules.ends_well.Statement.{statement}
-use Rattle.image.proofs.rules.ends_well.Tie as tie
+use Rattle.rules.proofs.ends_well.Statement.{statement}
+use Rattle.rules.proofs.ends_well.Tie as tie
 
 is-end-requires : tie.Need-is-end-requires
 is-end-requires c κs = search needs

@@ -1,4 +1,4 @@
--- `image::rules::width_is_least` meets its contract. Assumes nothing.
+-- `rules::width_is_least` meets its contract. Assumes nothing.
 use mathlib.Core.Path.{_∙_, ap, ap₂}
 use mathlib.Core.List.{[], _∷_}
 use lib.Dec.{eqb}
@@ -6,9 +6,9 @@ use mir.Facts.{toZ-ofZ}
 use borrow.Author.Needs.{needs}
 use borrow.Author.Tests.{lt-ltb, le-ltb}
 use Rattle.numbers.specs.Widths.{weightWidth}
 use Rattle.image.specs.Reader.{widthIsLeast}
-use Rattle.image.proofs.rules.width_is_least.Statement.{statement}
-use Rattle.image.proofs.rules.width_is_least.Tie as tie
+use Rattle.rules.proofs.width_is_least.Statement.{statement}
+use Rattle.rules.proofs.width_is_least.Tie as tie
 
 returns : tie.Need-returns
 unfolding widthIsLeast

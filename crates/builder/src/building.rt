@@ -1,95 +1,11 @@
 // The records of a table, from the classes of its cuts.
-ghost use mathlib.Core.Path.{_≡_};
-ghost use Prim.Native.Nat.{_+_, _-_, _*_, _≤_, _<_};
-ghost use lib.ListN.{length, set};
-ghost use Rattle.numbers.specs.Inner.Rows.{overwritten};
-ghost use Rattle.blocks.specs.Inner.Layout.{cutPlace, AllClassed};
+ghost use Prim.Native.Nat.{_+_, _-_, _<_};
+ghost use Rattle.blocks.specs.Inner.Layout.{AllClassed};
 ghost use Rattle.diagram.specs.Accepted.{Accepted};
 ghost use Rattle.diagram.specs.Build.{Builds};
-ghost use Rattle.diagram.specs.Inner.Building.{Forking, RecordRoom, ClassPlaced, CutReady, CutRecorded, TableRoom, BuildReady, AllRecorded};
-ghost use Rattle.diagram.specs.Records.{recordNumbers, recordSize};
+ghost use Rattle.diagram.specs.Inner.Building.{TableRoom, BuildReady, AllRecorded};
 use diagram::Built;
-use diagram::forks;
 use diagram::records;
-
-// Number k of cut h in a row of all cuts is set.
-pub(crate) fn set_in_cut(row: &mut [usize], h: usize, k: usize, number: usize)
-    requires { ⌜ (h < 64) × (cutPlace h + k < length (now row)) ⌝ }
-    ensures { λ _. ⌜ now (row .exit) ≡ set (now (row .entry)) (cutPlace h + k) number ⌝ }
-{
-    let place = numbers::power(h) - 1 + k;
-    row[place] = number;
-}
-
-// A record's numbers, behind those of the records made.
-pub(crate) fn write_record(
-    nodes: &mut [i32],
-    made: usize,
-    variable: usize,
-    low: usize,
-    high: usize,
-    weight: i32,
-)
-    requires { ⌜ recordSize * made + recordSize ≤ length (now nodes) ⌝ }
-    requires { ⌜ (variable < 4096) × ((low < 4096) × (high < 4096)) ⌝ }
-    ensures { λ _. ⌜ now (nodes .exit) ≡ overwritten (now (nodes .entry)) (recordSize * made) (recordNumbers (record { variable = variable; low = low; high = high; weight = weight })) ⌝ }
-{
-    let at = records::RECORD_SIZE * made;
-    nodes[at] = variable as i32;
-    nodes[at + 1] = low as i32;
-    nodes[at + 2] = high as i32;
-    nodes[at + 3] = weight;
-}
-
-// Class c of cut h gets its node: that of its lower half where it does not branch, else a new record behind those made.
-pub(crate) fn place_class(
-    n: usize,
-    h: usize,
-    c: usize,
-    made: usize,
-    table: &[i32],
-    classes: &[usize],
-    firsts: &[usize],
-    row: &mut [usize],
-    nodes: &mut [i32],
-) -> usize
-    requires { ⌜ Forking n h c (now table) (now classes) (now firsts) (now row) ⌝ }
-    requires { ⌜ RecordRoom n h c made (now table) (now nodes) ⌝ }
-    ensures { λ r. ⌜ ClassPlaced n h c made (now (table .entry)) (now (row .entry)) (now (nodes .entry)) r (now (row .exit)) (now (nodes .exit)) ⌝ }
-{
-    let fork = forks::fork_at(n, h, c, table, classes, firsts, row);
-    if !fork.branching {
-        set_in_cut(row, h, c, fork.low);
-        return made;
-    }
-    write_record(nodes, made, n - (h + 1), fork.low, fork.high, fork.weight);
-    set_in_cut(row, h, c, made + 1);
-    made + 1
-}
-
-// The classes of cut h get their nodes, and their records stand behind those made.
-pub(crate) fn place_cut(
-    n: usize,
-    h: usize,
-    count: usize,
-    before: usize,
-    table: &[i32],
-    classes: &[usize],
-    firsts: &[usize],
-    row: &mut [usize],
-    nodes: &mut [i32],
-) -> usize
-    requires { ⌜ CutReady n h count before (now table) (now classes) (now firsts) (now row) (now nodes) ⌝ }
-    ensures { λ r. ⌜ CutRecorded n h before (now (table .entry)) (now (row .entry)) (now (nodes .entry)) r (now (row .exit)) (now (nodes .exit)) ⌝ }
-{
-    let mut made = before;
-    let mut c = 0;
-    while c < count {
-        made = place_class(n, h, c, made, table, classes, firsts, row, nodes);
-        c += 1;
-    }
-    made
-}
 
 // The records of a table, from the classes of its cuts, by rising height.
 pub(crate) fn write_records(
@@ -108,7 +24,7 @@ pub(crate) fn write_records(
     let mut i = 0;
     while i < n {
         let h = n - 1 - i;
-        made = place_cut(
+        made = recorder::place_cut(
             n,
             h,
             counts[h],

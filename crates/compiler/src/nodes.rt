@@ -12,7 +12,7 @@ fn count_branching(n: usize, h: usize, count: usize, table: &[i32], firsts: &[us
     let mut branching = 0;
     let mut c = 0;
     while c < count {
-        if diagram::forks::class_branches(n, h, c, table, firsts) {
+        if forks::class_branches(n, h, c, table, firsts) {
             branching += 1;
         }
         c += 1;

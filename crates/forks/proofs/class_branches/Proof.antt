@@ -1,14 +1,14 @@
--- `diagram::forks::class_branches` meets its contract: the class's first block is looked at. Assumes nothing.
+-- `forks::class_branches` meets its contract: the class's first block is looked at. Assumes nothing.
 use Prim.Native.Nat.{suc, _-_}
 use mathlib.Core.Path.{_∙_, ap₂}
 use native.Mathlib.Numerals.{add-one}
 use native.Mathlib.Omega.{arith}
 use borrow.Author.Needs.{needs}
 use Rattle.blocks.specs.Blocks.{block}
 use Rattle.diagram.specs.Records.{branches}
 use Rattle.diagram.specs.Laws.FirstBlocks.{cut-small, half-small, first-place, first-within, first-branches}
-use Rattle.diagram.proofs.forks.class_branches.Statement.{statement}
-use Rattle.diagram.proofs.forks.class_branches.Tie as tie
+use Rattle.forks.proofs.class_branches.Statement.{statement}
+use Rattle.forks.proofs.class_branches.Tie as tie
 
 in-cut-requires : tie.Need-in-cut-requires
 in-cut-requires c κs = let k = c .before .pre in (let s = cut-small k in omega arith, first-place k)

@@ -1,10 +1,10 @@
--- `builder::building::place_cut` meets its contract. The loop's invariant: the classes before c are placed. Assumes nothing.
+-- `recorder::place_cut` meets its contract. The loop's invariant: the classes before c are placed. Assumes nothing.
 use Prim.Native.Nat.{_-_, _<_}
 use native.Mathlib.Omega.{arith}
 use Rattle.blocks.specs.Classes.{classCount}
 use Rattle.diagram.specs.Laws.CutRecords.{CutSoFar, cut-start, row-length, nodes-kept, cut-forking, cut-record-room, cut-next, cut-done}
-use Rattle.builder.proofs.building.place_cut.Statement.{statement}
-use Rattle.builder.proofs.building.place_cut.Tie as tie
+use Rattle.recorder.proofs.place_cut.Statement.{statement}
+use Rattle.recorder.proofs.place_cut.Tie as tie
 
 abbrev Inv-loop : tie.InvT-loop
 Inv-loop n h count before table classes firsts row₀ nodes₀ made₀ c₀ row nodes made c = CutSoFar n h before table row₀ nodes₀ c made row nodes

@@ -1,4 +1,4 @@
--- `builder::building::place_class` meets its contract. Assumes nothing.
+-- `recorder::place_class` meets its contract. Assumes nothing.
 use Prim.Native.Nat.{suc, _+_, _-_, _*_, _<_}
 use mathlib.Core.Path.{_≡_, sym, _∙_, ap, subst}
 use mathlib.Core.Bool.{true, false}
@@ -15,8 +15,8 @@ use Rattle.diagram.specs.Records.{branches, recordOf, recordNumbers, recordSize
 use Rattle.diagram.specs.Inner.Building.{forkOf}
 use Rattle.diagram.specs.declared.Fork.{Fork}
 use Rattle.diagram.specs.Laws.Forks.{cut-fits, class-row-place, fork-record, fork-small, fork-weight-fits}
-use Rattle.builder.proofs.building.place_class.Statement.{statement}
-use Rattle.builder.proofs.building.place_class.Tie as tie
+use Rattle.recorder.proofs.place_class.Statement.{statement}
+use Rattle.recorder.proofs.place_class.Tie as tie
 
 fork-at-requires : tie.Need-fork-at-requires
 fork-at-requires c κs = search needs

@@ -1,4 +1,4 @@
--- `diagram::forks::fork_at` meets its contract. Assumes nothing.
+-- `forks::fork_at` meets its contract. Assumes nothing.
 use Prim.Native.Nat.{suc, _+_, _-_, _*_}
 use mathlib.Core.Path.{_≡_, _∙_, ap, ap₂}
 use native.Mathlib.Numerals.{add-one}
@@ -11,10 +11,10 @@ use mir.Facts.{toZ-ofZ}
 use borrow.Author.Needs.{needs, sfits-of}
 use Rattle.blocks.specs.Blocks.{block, first}
 use Rattle.blocks.specs.Inner.Layout.{cutPlace}
 use Rattle.diagram.specs.Laws.Forks.{low-class, high-class, cut-fits, first-small, low-class-place, high-class-place, low-node-place, high-node-place, half-fits, weight-place, forkRead, fork-is}
 use Rattle.diagram.specs.Laws.FirstBlocks.{firstOf, first-place}
-use Rattle.diagram.proofs.forks.fork_at.Statement.{statement}
-use Rattle.diagram.proofs.forks.fork_at.Tie as tie
+use Rattle.forks.proofs.fork_at.Statement.{statement}
+use Rattle.forks.proofs.fork_at.Tie as tie
 
 in-cut-requires : tie.Need-in-cut-requires
 in-cut-requires c κs = let f = c .before .before .before .pre in (cut-fits f .0, first-place (f .class))

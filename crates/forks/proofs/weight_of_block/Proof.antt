@@ -1,4 +1,4 @@
--- `diagram::forks::weight_of_block` meets its contract: the difference of two values fits. Assumes nothing.
+-- `forks::weight_of_block` meets its contract: the difference of two values fits. Assumes nothing.
 use Prim.Native.Nat.{_+_, _*_, _^_, _<_}
 use mathlib.Core.Path.{_≡_, _∙_, ap, ap₂}
 use native.Mathlib.Omega.{arith}
@@ -9,9 +9,9 @@ use mir.Val.{SFits, ofZ, toZ}
 use mir.Facts.{toZ-ofZ}
 use borrow.Author.Needs.{needs, sfits-of}
 use Rattle.blocks.specs.Blocks.{block, first}
 use Rattle.diagram.specs.Laws.Forks.{doubled-inside, lower-inside, weight-fits}
-use Rattle.diagram.proofs.forks.weight_of_block.Statement.{statement}
-use Rattle.diagram.proofs.forks.weight_of_block.Tie as tie
+use Rattle.forks.proofs.weight_of_block.Statement.{statement}
+use Rattle.forks.proofs.weight_of_block.Tie as tie
 
 -- The place of the upper half is within the table.
 upper : (c : tie.Start) → c .args .j * 2 + 1 < 2 ^ 63

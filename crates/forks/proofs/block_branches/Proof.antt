@@ -1,4 +1,4 @@
--- `diagram::forks::block_branches` meets its contract: the halves of the block's part are compared. Assumes nothing.
+-- `forks::block_branches` meets its contract: the halves of the block's part are compared. Assumes nothing.
 use Prim.Native.Nat.{ℕ, suc, _+_, _-_, _*_, _/_, _^_, _≤_}
 use mathlib.Core.Path.{_≡_, sym, _∙_, ap}
 use mathlib.Core.Bool.{not}
@@ -12,9 +12,9 @@ use borrow.Author.Needs.{needs}
 use Rattle.blocks.specs.Blocks.{block}
 use Rattle.blocks.specs.Classes.{same}
 use Rattle.blocks.specs.Laws.Blocks.{block-length}
 use Rattle.diagram.specs.Laws.Branching.{branches-by-halves}
-use Rattle.diagram.proofs.forks.block_branches.Statement.{statement}
-use Rattle.diagram.proofs.forks.block_branches.Tie as tie
+use Rattle.forks.proofs.block_branches.Statement.{statement}
+use Rattle.forks.proofs.block_branches.Tie as tie
 
 add-power : tie.Need-add-power
 add-power c = search needs

@@ -1,4 +1,4 @@
--- `builder::building::set_in_cut` meets its contract. Assumes nothing.
+-- `recorder::set_in_cut` meets its contract. Assumes nothing.
 use Prim.Native.Nat.{_+_, _-_, _<_}
 use mathlib.Core.Path.{ap}
 use native.Mathlib.Omega.{arith}
@@ -6,8 +6,8 @@ use lib.ListN.{length, set}
 use lib.Pow.{pow-pos}
 use borrow.Author.Needs.{needs, scaled-fits}
 use Rattle.blocks.specs.Inner.Layout.{cutPlace}
-use Rattle.builder.proofs.building.set_in_cut.Statement.{statement}
-use Rattle.builder.proofs.building.set_in_cut.Tie as tie
+use Rattle.recorder.proofs.set_in_cut.Statement.{statement}
+use Rattle.recorder.proofs.set_in_cut.Tie as tie
 
 power-requires : tie.Need-power-requires
 power-requires c κs = search needs

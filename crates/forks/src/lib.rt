@@ -8,9 +8,9 @@ ghost use Rattle.numbers.specs.Lists.{every};
 ghost use Rattle.numbers.specs.Ranges.{isValue};
 ghost use Rattle.blocks.specs.Blocks.{block, first};
 ghost use Rattle.blocks.specs.Inner.Layout.{classAt};
 ghost use Rattle.diagram.specs.Inner.Building.{forkOf, ClassOfCut, Forking};
 ghost use Rattle.diagram.specs.Records.{branches};
-use crate::Fork;
+use diagram::Fork;
 
 // The weight of block j, whose halves have height i.
 fn weight_of_block(table: &[i32], i: usize, j: usize) -> i32

@@ -6,7 +6,7 @@ use crate::tally::Tally;
 use cascade::Outcome;
 use compiler::compile;
 
-// An image's bytes, the node count and the total bits.
+// The numbers of Compile's answer.
 struct Numbers {
     length: usize,
     nodes: usize,

@@ -55,7 +55,19 @@ pub(crate) const LONGER_IMAGE: [u8; 33] = *b"\x56\x01\x00\x00\x00\x05\
     \x45\x00\x00\x00\x06\
     \x45";
 
-// n 12 with X itself as the value at X, and the answers on it with A 12.
+// The ramp: n 12 with X itself as the value at X. The answers on it are with A 12.
+pub(crate) fn ramp() -> [i32; 4096]
+    ensures { λ r. ⌜ 4096 ≡ length r ⌝ }
+{
+    let mut table = [0i32; 4096];
+    let mut x = 0;
+    while x < 4096 {
+        table[x] = x as i32;
+        x += 1;
+    }
+    table
+}
+
 pub(crate) const RAMP_RECORDS: [i32; 48] = [
     0,
     0,
@@ -187,18 +199,6 @@ pub(crate) fn ramp_image() -> [u8; 263]
     \x43\x01\x00\x01\x00\x01\x03\x57\x00\x00\x00\x00\x00\x00\x57\x00\x00\x00\x00\x00\x02\
     \x43\x01\x00\x01\x00\x01\x02\x57\x00\x00\x00\x00\x00\x00\x57\x00\x00\x00\x00\x00\x01\
     \x45\x00\x00\x00\xb4"
-}
-
-pub(crate) fn ramp() -> [i32; 4096]
-    ensures { λ r. ⌜ 4096 ≡ length r ⌝ }
-{
-    let mut table = [0i32; 4096];
-    let mut x = 0;
-    while x < 4096 {
-        table[x] = x as i32;
-        x += 1;
-    }
-    table
 }
 
 // The ramp's image with n 13.

@@ -9,7 +9,7 @@ use libc::STDOUT_FILENO;
 // One byte more than the longest admitted input: the bytes behind these do not change the text.
 const KEPT: usize = 16387;
 
-// The bytes of the text of every input.
+// The bytes of a buffer that holds the text of every input.
 const TEXT_ROOM: usize = 225943;
 
 // What one read gave.

@@ -27,7 +27,6 @@ module _ (n h : ℕ) (cut : h ≤ n) where
       ap (λ k. partDifferences table (2 ^ (n - h)) (numbersFrom 0 (2 ^ k))) (let e : h ≡ n - (n - h) = omega arith in e)
       ∙ sym (map-map (block table (n - h)) differences (numbersFrom 0 (2 ^ (n - (n - h)))))
 
-
 -- Cut h of a table with rows for all cuts: its block count and its block size.
 pub record CutAt (n h count size : ℕ) (table : List ℤ) (classRow firstRow : List ℕ) : Type 0 where
   pub rows : CutsRoom n table classRow firstRow

@@ -9,27 +9,12 @@ use lib.Seq.{take-at}
 use lib.Dec.{leb}
 use borrow.Author.Tests.{le-leb}
 use Rattle.listing.specs.Listing.{listing}
-use Rattle.listing.specs.Program.{listAnswer, listBuffer, Lists}
+use Rattle.listing.specs.Program.{textRoom, listAnswer, listBuffer, Lists}
 use Rattle.listing.specs.Theorems.{bytes-beyond}
-use Rattle.listing.specs.Inner.Listed.{textRoom}
 use Rattle.listing.specs.declared.Listed.{Listed}
 use Rattle.listing.specs.declared.Listed.the-variants.{Text, TooShort}
-use Rattle.list.specs.Input.{keptBytes, PieceWithin, KeptWithin}
+use Rattle.list.specs.Input.{keptBytes}
 use Rattle.list.specs.Text.{ListsKept}
-use Rattle.list.specs.declared.Piece.{Piece}
-use Rattle.list.specs.declared.Piece.the-variants.{Bytes}
-use Rattle.list.specs.declared.Input.{Input}
-use Rattle.list.specs.declared.Input.the-variants.{Kept}
-
--- The bytes of a piece.
-pub piece-bytes : (room : ℕ) (piece : Piece) (count : ℕ) → PieceWithin room piece → piece ≡ Bytes count → (0 < count) × (count ≤ room)
-unfolding PieceWithin
-piece-bytes room piece count within is = subst (PieceWithin room) is within
-
--- The count of the kept bytes.
-pub kept-count : (room : ℕ) (input : Input) (count : ℕ) → KeptWithin room input → input ≡ Kept count → count ≤ room
-unfolding KeptWithin
-kept-count room input count within is = subst (KeptWithin room) is within
 
 -- The length of an answered text.
 textLength : Listed → ℕ

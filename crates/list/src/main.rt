@@ -1,10 +1,9 @@
 // The listing program: reads standard input to its end and writes the listing of the table in it to standard output.
-ghost use lib.ListN.{length};
-ghost use Rattle.list.specs.Input.{PieceWithin, KeptWithin, Keeps};
+ghost use Rattle.list.specs.Input.{Keeps};
 ghost use Rattle.list.specs.Text.{ListsKept};
 use libc::STDERR_FILENO;
-use libc::STDIN_FILENO;
 use libc::STDOUT_FILENO;
+use stdin::Input;
 
 // One byte more than the longest admitted input: the bytes behind these do not change the text.
 const KEPT: usize = 16387;
@@ -12,74 +11,11 @@ const KEPT: usize = 16387;
 // The bytes of a buffer that holds the text of every input.
 const TEXT_ROOM: usize = 225943;
 
-// What one read gave.
-enum Piece {
-    Bytes(usize),
-    End,
-    Failed,
-}
-
-// What reading the whole input gave: the count of the bytes kept, or that a read failed.
-enum Input {
-    Kept(usize),
-    Unreadable,
-}
-
-// One read to the front of a buffer.
-fn read_piece(buffer: &mut [u8]) -> Piece
-    ensures { λ r. ⌜ PieceWithin (length (now (buffer .entry))) r ⌝ }
-{
-    let got = libc::read(STDIN_FILENO, buffer);
-    if got < 0 {
-        return Piece::Failed;
-    }
-    let count = io::count(got, buffer);
-    if count == 0 {
-        return Piece::End;
-    }
-    Piece::Bytes(count)
-}
-
-// Reads into the buffer until it is full or the input ends.
-fn keep_front(buffer: &mut [u8]) -> Input
-    ensures { λ r. ⌜ KeptWithin (length (now (buffer .entry))) r ⌝ }
-{
-    let mut kept = 0;
-    while kept < buffer.len() {
-        match read_piece(&mut buffer[kept..]) {
-            Piece::Bytes(count) => kept += count,
-            Piece::End => return Input::Kept(kept),
-            Piece::Failed => return Input::Unreadable,
-        }
-    }
-    Input::Kept(kept)
-}
-
-// Reads to the end of the input and keeps nothing. Answers whether no read failed.
-fn drop_rest() -> bool {
-    let mut buffer = io::large_buffer();
-    let mut turns = u64::MAX;
-    while turns > 0 {
-        match read_piece(&mut buffer) {
-            Piece::Bytes(_) => turns -= 1,
-            Piece::End => return true,
-            Piece::Failed => return false,
-        }
-    }
-    true
-}
-
 // Reads to the end of the input and keeps its first bytes.
 fn read_input(buffer: &mut [u8; KEPT]) -> Input
     ensures { λ r. ⌜ Keeps (now (buffer .exit)) r ⌝ }
 {
-    let Input::Kept(count) = keep_front(buffer) else {
-        return Input::Unreadable;
-    };
-    if count == KEPT && !drop_rest() {
-        return Input::Unreadable;
-    }
-    Input::Kept(count)
+    stdin::read_all(buffer)
 }
 
 // The listing of an input, of which the first bytes were kept, in front of the text. Answers its length.

@@ -3,7 +3,7 @@ use Prim.Native.Nat.{_≤_}
 use native.Mathlib.Omega.{arith}
 use lib.ListN.{length}
 use borrow.Author.Needs.{needs}
-use Rattle.listing.specs.Inner.Listed.{textRoom}
+use Rattle.listing.specs.Program.{textRoom}
 use Rattle.list.specs.Laws.{text-answered, text-listed}
 use Rattle.list.proofs.list_kept.Statement.{statement}
 use Rattle.list.proofs.list_kept.Tie as tie

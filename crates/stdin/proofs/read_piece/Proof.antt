@@ -1,9 +1,9 @@
--- `list::read_piece` meets its contract: a count that is not 0 is within the buffer. Assumes nothing.
+-- `stdin::read_piece` meets its contract: a count that is not 0 is within the buffer. Assumes nothing.
 use native.Mathlib.Omega.{arith}
 use borrow.Author.Needs.{needs}
-use Rattle.list.specs.Input.{PieceWithin}
-use Rattle.list.proofs.read_piece.Statement.{statement}
-use Rattle.list.proofs.read_piece.Tie as tie
+use Rattle.stdin.specs.Inner.{PieceWithin}
+use Rattle.stdin.proofs.read_piece.Statement.{statement}
+use Rattle.stdin.proofs.read_piece.Tie as tie
 
 read-requires : tie.Need-read-requires
 read-requires c κs = search needs

@@ -1,4 +1,4 @@
--- `list::keep_front` meets its contract. The loop's invariant: no more bytes are kept than there is room for. A piece has a byte at least,
+-- `stdin::keep_front` meets its contract. The loop's invariant: no more bytes are kept than there is room for. A piece has a byte at least,
 -- so what is left of the buffer is the measure. Assumes nothing.
 use Prim.Native.Nat.{_≤_, _<_, _-_}
 use mathlib.Core.Path.{_≡_, _∙_}
@@ -7,10 +7,10 @@ use lib.ListN.{length, drop, length-drop}
 use lib.Seq.{length-take-le}
 use borrow.Rule.Slice.PartMut.{same-len-mid}
 use borrow.Author.Needs.{needs}
-use Rattle.list.specs.Input.{KeptWithin}
-use Rattle.list.specs.Laws.{piece-bytes}
-use Rattle.list.proofs.keep_front.Statement.{statement}
-use Rattle.list.proofs.keep_front.Tie as tie
+use Rattle.stdin.specs.Input.{KeptWithin}
+use Rattle.stdin.specs.Laws.{piece-bytes}
+use Rattle.stdin.proofs.keep_front.Statement.{statement}
+use Rattle.stdin.proofs.keep_front.Tie as tie
 
 abbrev Inv-loop : tie.InvT-loop
 Inv-loop buffer₀ kept₀ buffer kept = (length buffer ≡ length buffer₀) × (kept ≤ length buffer₀)

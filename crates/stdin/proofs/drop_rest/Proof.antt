@@ -1,10 +1,10 @@
--- `list::drop_rest` is safe and ends. The measure is the number of turns that are left. Assumes nothing.
+-- `stdin::drop_rest` is safe and ends. The measure is the number of turns that are left. Assumes nothing.
 use mathlib.Core.Path.{_≡_, sym, _∙_}
 use native.Mathlib.Omega.{arith}
 use lib.ListN.{length}
 use borrow.Author.Needs.{needs}
-use Rattle.list.proofs.drop_rest.Statement.{statement}
-use Rattle.list.proofs.drop_rest.Tie as tie
+use Rattle.stdin.proofs.drop_rest.Statement.{statement}
+use Rattle.stdin.proofs.drop_rest.Tie as tie
 
 abbrev Inv-loop : tie.InvT-loop
 Inv-loop buffer₀ turns₀ buffer turns = 65536 ≡ length buffer

@@ -1,0 +1,24 @@
+// A table as people write it, in decimal text: from the bytes of the text to the bytes of the listing's input.
+ghost use Rattle.decimal.specs.Table.{Reads};
+
+// What was expected where a text goes wrong.
+pub enum Expected {
+    // n, on the first line.
+    Variables,
+    // The address limit, on the first line.
+    Limit,
+    // Nothing more on the first line.
+    LineEnd,
+    // One of the 2^n values.
+    Value,
+    // Nothing more after them.
+    TextEnd,
+}
+
+// What a text gives: the length of the input in the lent buffer, or the line on which something else was expected; or that the
+// buffer is too short for some input.
+pub enum Parsed {
+    Input { length: usize },
+    Wrong { line: usize, expected: Expected },
+    TooShort,
+}

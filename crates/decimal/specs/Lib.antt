@@ -4,3 +4,5 @@ pub mod Words
 pub mod Numbers
 pub mod Table
 pub mod Examples
+pub mod Inner
+pub mod Laws

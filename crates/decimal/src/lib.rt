@@ -1,4 +1,6 @@
 // A table as people write it, in decimal text: from the bytes of the text to the bytes of the listing's input.
+mod words;
+
 ghost use Rattle.decimal.specs.Table.{Reads};
 
 // What was expected where a text goes wrong.
@@ -21,4 +23,10 @@ pub enum Parsed {
     Input { length: usize },
     Wrong { line: usize, expected: Expected },
     TooShort,
+}
+
+// A place in a text, and its line.
+struct Place {
+    at: usize,
+    line: usize,
 }

@@ -1,3 +1,4 @@
 -- Laws about the definitions of this crate, which proofs cite.
 pub mod Words
 pub mod Places
+pub mod Numbers

@@ -1,4 +1,5 @@
 // A table as people write it, in decimal text: from the bytes of the text to the bytes of the listing's input.
+mod numerals;
 mod words;
 
 ghost use Rattle.decimal.specs.Table.{Reads};
@@ -29,4 +30,16 @@ pub enum Parsed {
 struct Place {
     at: usize,
     line: usize,
+}
+
+// What digits give: their number up to 2^31.
+enum Digits {
+    Small(usize),
+    NotSmall,
+}
+
+// What a word gives: its number of 32 bits.
+enum Number {
+    Whole(i32),
+    NotWhole,
 }

@@ -1,3 +1,4 @@
 -- What inner functions promise and hold.
 pub mod Places
 pub mod Numbers
+pub mod Items

@@ -1,4 +1,5 @@
 // A table as people write it, in decimal text: from the bytes of the text to the bytes of the listing's input.
+mod headings;
 mod numerals;
 mod words;
 
@@ -42,4 +43,17 @@ enum Digits {
 enum Number {
     Whole(i32),
     NotWhole,
+}
+
+// What comes next in a text: a number of 32 bits, with the place behind it, any other word, or nothing; each with its line.
+enum Item {
+    Valued { number: i32, line: usize, at: usize },
+    Other { line: usize },
+    Ended { line: usize },
+}
+
+// A number in its range on the first line, with the place behind it.
+enum Heading {
+    Found { number: usize, at: usize },
+    Missing,
 }

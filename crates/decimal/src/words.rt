@@ -4,7 +4,11 @@ ghost use Prim.Native.Nat.{_+_, _≤_};
 ghost use lib.ListN.{length, drop};
 ghost use Rattle.decimal.specs.Words.{isBlank};
 ghost use Rattle.decimal.specs.Inner.Places.{isSeparator, PlaceIn, skipped, wordLength};
+ghost use Rattle.decimal.specs.Inner.Items.{itemAt};
+use crate::Item;
+use crate::Number;
 use crate::Place;
+use crate::numerals;
 
 fn is_blank(byte: u8) -> bool
     ensures { λ r. ⌜ r ≡ isBlank byte ⌝ }
@@ -59,4 +63,26 @@ fn word_end(text: &[u8], start: usize) -> usize
         at += 1;
     }
     at
+}
+
+// What comes next, from a place on.
+pub(crate) fn next_item(text: &[u8], place: Place) -> Item
+    requires { ⌜ PlaceIn (now text) place ⌝ }
+    ensures { λ r. ⌜ r ≡ itemAt (now (text .entry)) place ⌝ }
+{
+    let first = skip(text, place);
+    let start = first.at;
+    let line = first.line;
+    if text.len() <= start {
+        return Item::Ended { line };
+    }
+    let end = word_end(text, start);
+    match numerals::word_number(&text[start..end]) {
+        Number::Whole(number) => Item::Valued {
+            number,
+            line,
+            at: end,
+        },
+        Number::NotWhole => Item::Other { line },
+    }
 }

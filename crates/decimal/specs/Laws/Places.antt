@@ -14,6 +14,7 @@ use Rattle.numbers.specs.Laws.Bools.{yes-or-no, and-both}
 use Rattle.decimal.specs.Words.{isSome, words, lastLine}
 use Rattle.decimal.specs.declared.Place.{Place}
 use Rattle.decimal.specs.Inner.Places.{isSeparator, lineAfter, wordsFrom, wordsAt, newlines, PlaceIn, skippedFrom, skipped, wordLength}
+use Rattle.decimal.specs.Inner.Items.{wordThere, wordBehind}
 use Rattle.decimal.specs.Laws.Words.{within-word, line-after-other, isInner, stops, last-line, newlines-few, newline-counted, separator-passed, no-words, word-first}
 
 -- The text's start, on line 1.
@@ -166,13 +167,9 @@ run-is (byte ∷ rest) =
           kept = omega arith;
         }
 
--- The place behind the word at a place.
-unfoldable pub wordBehind : List ℕ → Place → Place
-wordBehind text place = record { at = place .at + wordLength (drop (place .at) text); line = place .line }
-
--- Its bytes.
-unfoldable pub wordThere : List ℕ → Place → List ℕ
-wordThere text place = take (wordLength (drop (place .at) text)) (drop (place .at) text)
+-- A word ends within the text.
+pub word-fits : (text : List ℕ) (at : ℕ) → at < length text → at + wordLength (drop at text) ≤ length text
+word-fits text at l = let f = run-is (drop at text) .few in let w = length-drop at text in omega arith
 
 -- Where there is a word its bytes are in front of the words behind it.
 pub record WordFirst (text : List ℕ) (place : Place) : Type 0 where

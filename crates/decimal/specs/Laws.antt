@@ -3,3 +3,6 @@ pub mod Words
 pub mod Places
 pub mod Numbers
 pub mod Items
+pub mod Values
+pub mod Buffers
+pub mod Tables

@@ -44,8 +44,8 @@ not-small : (digits : List ℕ) → isSmall digits ≡ false → smallNumber dig
 unfolding smallNumber
 not-small digits e = rw (e, smallNumber)
 
--- Both of two tests fail where one does.
-one-fails : (a b : Bool) → b ≡ false → (a && b) ≡ false
+-- Two tests do not both pass where the second fails.
+pub one-fails : (a b : Bool) → b ≡ false → (a && b) ≡ false
 one-fails true b e = e
 one-fails false b e = refl
 

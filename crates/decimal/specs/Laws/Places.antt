@@ -198,3 +198,12 @@ word-is {text} {place} p l e =
   where
     some : wordLength (drop (place .at) text) ≡ suc (wordLength (drop (place .at + 1) text)) → isSome (take (wordLength (drop (place .at) text)) (drop (place .at) text)) ≡ true
     some long = ap₂ (λ k l. isSome (take k l)) long (byte-there text (place .at) l)
+
+-- ---- past the separators there is the end or the first word
+
+pub skipped-none : {text : List ℕ} {place : Place} → PlaceIn text place → length text ≤ skipped text place .at → wordsAt text place ≡ []
+skipped-none {text} {place} p l = sym (skipped-is p .same) ∙ ended-words text (skipped text place) l
+
+pub skipped-word : {text : List ℕ} {place : Place} → PlaceIn text place → skipped text place .at < length text
+    → wordsAt text place ≡ record { line = skipped text place .line; bytes = wordThere text (skipped text place) } ∷ wordsAt text (wordBehind text (skipped text place))
+skipped-word p l = let s = skipped-is p in sym (s .same) ∙ word-is (s .placed) l (s .stopped l) .first

@@ -6,3 +6,4 @@ pub mod Items
 pub mod Values
 pub mod Buffers
 pub mod Tables
+pub mod Written

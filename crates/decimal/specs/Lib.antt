@@ -3,6 +3,8 @@
 pub mod Words
 pub mod Numbers
 pub mod Table
+pub mod Text
 pub mod Examples
+pub mod Theorems
 pub mod Inner
 pub mod Laws

@@ -92,7 +92,7 @@ module _ (end n limit : ℕ) (words : List Word) where
   unfolding bodyRead
   body-more e = rw (e, bodyRead)
 
-  body-values : hasMore words ≡ false → bodyRead end n limit words ≡ mapRead (λ values. record { n = n; limit = limit; values = values }) (valuesRead end (2 ^ n) words)
+  pub body-values : hasMore words ≡ false → bodyRead end n limit words ≡ mapRead (λ values. record { n = n; limit = limit; values = values }) (valuesRead end (2 ^ n) words)
   unfolding bodyRead
   body-values e = rw (e, bodyRead)
 

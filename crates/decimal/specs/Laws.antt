@@ -7,3 +7,5 @@ pub mod Values
 pub mod Buffers
 pub mod Tables
 pub mod Written
+pub mod Lines
+pub mod Conditions

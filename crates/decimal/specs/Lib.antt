@@ -4,6 +4,7 @@ pub mod Words
 pub mod Numbers
 pub mod Table
 pub mod Text
+pub mod Conditions
 pub mod Examples
 pub mod Theorems
 pub mod Inner

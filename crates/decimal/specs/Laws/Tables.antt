@@ -1,0 +1,145 @@
+-- What a text gives, step by step, and the answer for it.
+use Prim.Native.Nat.{ℕ, _+_, _*_, _^_, _≤_, _<_}
+use mathlib.Core.Path.{_≡_, refl, sym, _∙_, ap}
+use mathlib.Core.Bool.{true, false}
+use mathlib.Core.List.{List, [], _∷_}
+use native.Mathlib.Omega.{arith}
+use lib.ListN.{length}
+use lib.Signed.{mag}
+use borrow.Author.Tests.{le-leb, lt-leb}
+use Rattle.numbers.specs.Ranges.{mostVariables}
+use Rattle.numbers.specs.Inner.Rows.{overwritten}
+use Rattle.numbers.specs.Laws.Rows.{overwritten-front}
+use Rattle.decimal.specs.Words.{Word, lastLine}
+use Rattle.decimal.specs.Numbers.{numberOf}
+use Rattle.decimal.specs.Table.{Read, got, wrong, mapRead, Table, valuesRead, isHeading, hasMore, bodyRead, limitRead, wordsRead, textRead, inputOf, inputRoom, parsed, parsedBuffer, Reads}
+use Rattle.decimal.specs.declared.Expected.{Expected}
+use Rattle.decimal.specs.declared.Expected.the-variants.{Variables, Limit, LineEnd}
+use Rattle.decimal.specs.declared.Parsed.{Parsed}
+use Rattle.decimal.specs.declared.Parsed.the-variants.{Input, Wrong, TooShort}
+use Rattle.decimal.specs.declared.Checked.the-variants.{Good, Wrong as NotGood}
+use Rattle.decimal.specs.declared.Heading.the-variants.{Missing}
+use Rattle.decimal.specs.Inner.Places.{wordsAt}
+use Rattle.decimal.specs.Inner.Values.{checked, valuesFound}
+use Rattle.decimal.specs.Laws.Places.{start-words}
+use Rattle.decimal.specs.Laws.Items.{HeadingFound, HeadingSeen}
+use Rattle.decimal.specs.Laws.Values.{good-values}
+use Rattle.decimal.specs.Laws.Buffers.{input-length}
+
+-- ---- the first line
+
+module _ (end : ℕ) (words : List Word) where
+  pub variables-missing : ((word : Word) (more : List Word) → words ≡ word ∷ more → isHeading 1 12 word ≡ false) → wordsRead end words ≡ wrong 1 Variables
+  unfolding wordsRead mostVariables
+  variables-missing none = by-words words none
+    where
+      by-words : (words : List Word) → ((word : Word) (more : List Word) → words ≡ word ∷ more → isHeading 1 12 word ≡ false) → wordsRead end words ≡ wrong 1 Variables
+      by-words [] none = refl
+      by-words (word ∷ more) none = rw (none word more refl, wordsRead)
+
+  pub limit-missing : (n : ℕ) → ((word : Word) (more : List Word) → words ≡ word ∷ more → isHeading 0 255 word ≡ false) → limitRead end n words ≡ wrong 1 Limit
+  unfolding limitRead
+  limit-missing n none = by-words words none
+    where
+      by-words : (words : List Word) → ((word : Word) (more : List Word) → words ≡ word ∷ more → isHeading 0 255 word ≡ false) → limitRead end n words ≡ wrong 1 Limit
+      by-words [] none = refl
+      by-words (word ∷ more) none = rw (none word more refl, limitRead)
+
+module _ (end : ℕ) (word : Word) (more : List Word) where
+  pub variables-found : isHeading 1 12 word ≡ true → wordsRead end (word ∷ more) ≡ limitRead end (mag (numberOf (word .bytes))) more
+  unfolding wordsRead mostVariables
+  variables-found e = rw (e, wordsRead)
+
+  pub limit-found : (n : ℕ) → isHeading 0 255 word ≡ true → limitRead end n (word ∷ more) ≡ bodyRead end n (mag (numberOf (word .bytes))) more
+  unfolding limitRead
+  limit-found n e = rw (e, limitRead)
+
+module _ (text : List ℕ) where
+  at-start : textRead text ≡ wordsRead (lastLine text) (wordsAt text (record { at = 0; line = 1 }))
+  unfolding textRead
+  at-start = ap (wordsRead (lastLine text)) (sym (start-words text))
+
+  -- n is missing, or the limit comes next.
+  pub no-variables : HeadingSeen text 0 1 12 Missing → textRead text ≡ wrong 1 Variables
+  no-variables none = at-start ∙ variables-missing (lastLine text) (wordsAt text (record { at = 0; line = 1 })) none
+
+  pub variables-first : {n next : ℕ} → HeadingFound text 0 1 12 n next → textRead text ≡ limitRead (lastLine text) n (wordsAt text (record { at = next; line = 1 }))
+  variables-first {next = next} f =
+      at-start
+      ∙ ap (wordsRead (lastLine text)) (f .first)
+      ∙ variables-found (lastLine text) (record { line = 1; bytes = f .word }) (wordsAt text (record { at = next; line = 1 })) (f .heads)
+      ∙ ap (λ n. limitRead (lastLine text) n (wordsAt text (record { at = next; line = 1 }))) (sym (f .number-is))
+
+  -- The limit is missing, or the rest comes next.
+  pub no-limit : (n at : ℕ) → HeadingSeen text at 0 255 Missing → limitRead (lastLine text) n (wordsAt text (record { at = at; line = 1 })) ≡ wrong 1 Limit
+  no-limit n at none = limit-missing (lastLine text) (wordsAt text (record { at = at; line = 1 })) n none
+
+  pub limit-second : (n at : ℕ) {limit next : ℕ} → HeadingFound text at 0 255 limit next → limitRead (lastLine text) n (wordsAt text (record { at = at; line = 1 })) ≡ bodyRead (lastLine text) n limit (wordsAt text (record { at = next; line = 1 }))
+  limit-second n at {next = next} f =
+      ap (limitRead (lastLine text) n) (f .first)
+      ∙ limit-found (lastLine text) (record { line = 1; bytes = f .word }) (wordsAt text (record { at = next; line = 1 })) n (f .heads)
+      ∙ ap (λ limit. bodyRead (lastLine text) n limit (wordsAt text (record { at = next; line = 1 }))) (sym (f .number-is))
+
+-- ---- what follows it
+
+checked-wrong : {A : Type 0} (read : Read A) (line : ℕ) (expected : Expected) → checked read ≡ NotGood line expected → read ≡ wrong line expected
+unfolding checked
+checked-wrong (got a) line expected e = let z : _≡_ {A = ℕ} 0 1 = cc in absurd (omega arith)
+checked-wrong (wrong at other) line expected e = let p : at ≡ line = cc in let q : other ≡ expected = cc in cc
+
+module _ (end n limit : ℕ) (words : List Word) where
+  pub body-more : hasMore words ≡ true → bodyRead end n limit words ≡ wrong 1 LineEnd
+  unfolding bodyRead
+  body-more e = rw (e, bodyRead)
+
+  pub body-values : hasMore words ≡ false → bodyRead end n limit words ≡ mapRead (λ values. record { n = n; limit = limit; values = values }) (valuesRead end (2 ^ n) words)
+  unfolding bodyRead
+  body-values e = rw (e, bodyRead)
+
+  module _ (e : hasMore words ≡ false) (count : ℕ) (c : count ≡ 2 ^ n) where
+    pub body-wrong : (line : ℕ) (expected : Expected) → checked (valuesRead end count words) ≡ NotGood line expected → bodyRead end n limit words ≡ wrong line expected
+    body-wrong line expected w =
+        body-values e
+        ∙ ap (mapRead (λ values. record { n = n; limit = limit; values = values })) (ap (λ k. valuesRead end k words) (sym c) ∙ checked-wrong (valuesRead end count words) line expected w)
+
+    pub body-good : checked (valuesRead end count words) ≡ Good → bodyRead end n limit words ≡ got (record { n = n; limit = limit; values = valuesFound count words })
+    body-good g =
+        body-values e
+        ∙ ap (mapRead (λ values. record { n = n; limit = limit; values = values })) (ap (λ k. valuesRead end k words) (sym c) ∙ good-values end count words g .0)
+
+-- ---- the answer
+
+module _ (read : Read Table) where
+  pub wrong-parsed : (line : ℕ) (expected : Expected) → read ≡ wrong line expected → Wrong line expected ≡ parsed read
+  unfolding parsed
+  wrong-parsed line expected e = sym (ap parsed e)
+
+  pub wrong-buffer : (line : ℕ) (expected : Expected) (buffer : List ℕ) → read ≡ wrong line expected → buffer ≡ parsedBuffer read buffer
+  unfolding parsedBuffer
+  wrong-buffer line expected buffer e = sym (ap (λ read. parsedBuffer read buffer) e)
+
+  pub got-parsed : (table : Table) (count : ℕ) → read ≡ got table → length (table .values) ≡ count → Input (2 + 4 * count) ≡ parsed read
+  unfolding parsed
+  got-parsed table count e c = sym (ap parsed e ∙ ap Input (input-length table ∙ ap (λ k. 2 + 4 * k) c))
+
+  pub got-buffer : (table : Table) (buffer : List ℕ) {buffer′ : List ℕ} → read ≡ got table → buffer′ ≡ overwritten buffer 0 (inputOf table) → buffer′ ≡ parsedBuffer read buffer
+  unfolding parsedBuffer
+  got-buffer table buffer e w = w ∙ overwritten-front buffer (inputOf table) ∙ sym (ap (λ read. parsedBuffer read buffer) e)
+
+module _ (text buffer : List ℕ) where
+  -- A buffer that does not hold every input.
+  pub reads-short : length buffer < 16386 → Reads text buffer TooShort buffer
+  unfolding inputRoom mostVariables
+  reads-short l = let short = lt-leb 16386 (length buffer) l in record { answered = rw short; left = rw short }
+
+  -- A buffer that does: the answer and the input are those of what the text gives.
+  pub reads-enough : {read : Read Table} {answer : Parsed} {buffer′ : List ℕ} → 16386 ≤ length buffer → textRead text ≡ read → answer ≡ parsed read → buffer′ ≡ parsedBuffer read buffer → Reads text buffer answer buffer′
+  unfolding inputRoom mostVariables
+  reads-enough l e a b =
+      let enough = le-leb 16386 (length buffer) l in
+      record { answered = rw enough (a ∙ sym (ap parsed e)); left = rw enough (b ∙ sym (ap (λ read. parsedBuffer read buffer) e)) }
+
+  -- The text is wrong.
+  pub reads-wrong : {line : ℕ} {expected : Expected} → 16386 ≤ length buffer → textRead text ≡ wrong line expected → Reads text buffer (Wrong line expected) buffer
+  unfolding parsed parsedBuffer
+  reads-wrong l e = reads-enough l e refl refl

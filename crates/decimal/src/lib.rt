@@ -1,0 +1,123 @@
+// A table as people write it, in decimal text: from the bytes of the text to the bytes of the listing's input.
+mod headings;
+mod numerals;
+mod values;
+mod words;
+
+ghost use mathlib.Core.Path.{_≡_};
+ghost use Rattle.decimal.specs.Words.{lastLine};
+ghost use Rattle.decimal.specs.Table.{bodyRead, parsed, parsedBuffer, Reads};
+ghost use Rattle.decimal.specs.Inner.Places.{wordsAt};
+ghost use Rattle.decimal.specs.Inner.Values.{BodyReady};
+
+// The bytes of a buffer that holds every input.
+const INPUT_ROOM: usize = 16386;
+
+// What was expected where a text goes wrong.
+pub enum Expected {
+    // n, on the first line.
+    Variables,
+    // The address limit, on the first line.
+    Limit,
+    // Nothing more on the first line.
+    LineEnd,
+    // One of the 2^n values.
+    Value,
+    // Nothing more after them.
+    TextEnd,
+}
+
+// What a text gives: the length of the input in the lent buffer, or the line on which something else was expected; or that the
+// buffer is too short for some input.
+pub enum Parsed {
+    Input { length: usize },
+    Wrong { line: usize, expected: Expected },
+    TooShort,
+}
+
+// A place in a text, and its line.
+struct Place {
+    at: usize,
+    line: usize,
+}
+
+// What digits give: their number up to 2^31.
+enum Digits {
+    Small(usize),
+    NotSmall,
+}
+
+// What a word gives: its number of 32 bits.
+enum Number {
+    Whole(i32),
+    NotWhole,
+}
+
+// What comes next in a text: a number of 32 bits, with the place behind it, any other word, or nothing; each with its line.
+enum Item {
+    Valued { number: i32, line: usize, at: usize },
+    Other { line: usize },
+    Ended { line: usize },
+}
+
+// A number in its range on the first line, with the place behind it.
+enum Heading {
+    Found { number: usize, at: usize },
+    Missing,
+}
+
+// Whether the values are all there, and nothing more.
+enum Checked {
+    Good,
+    Wrong { line: usize, expected: Expected },
+}
+
+// What follows n and the limit on the first line, from the place behind them.
+fn parse_body(text: &[u8], at: usize, n: usize, limit: usize, input: &mut [u8]) -> Parsed
+    requires { ⌜ BodyReady (now text) at n limit (now input) ⌝ }
+    ensures { λ r. ⌜ r ≡ parsed (bodyRead (lastLine (now (text .entry))) n limit (wordsAt (now (text .entry)) (record { at = at; line = 1 }))) ⌝ }
+    ensures { λ _. ⌜ now (input .exit) ≡ parsedBuffer (bodyRead (lastLine (now (text .entry))) n limit (wordsAt (now (text .entry)) (record { at = at; line = 1 }))) (now (input .entry)) ⌝ }
+{
+    if headings::has_more(text, at) {
+        return Parsed::Wrong {
+            line: 1,
+            expected: Expected::LineEnd,
+        };
+    }
+    let mut row = [0i32; 4096];
+    let count = numbers::power(n);
+    match values::read_values(text, Place { at, line: 1 }, count, &mut row) {
+        Checked::Wrong { line, expected } => Parsed::Wrong { line, expected },
+        Checked::Good => {
+            values::write_input(input, n, limit, &row[..count]);
+            Parsed::Input {
+                length: 2 + 4 * count,
+            }
+        }
+    }
+}
+
+// The listing's input of the table that a text gives, written into the lent buffer where that holds every input.
+pub fn parse(text: &[u8], input: &mut [u8]) -> Parsed
+    ensures { λ r. ⌜ Reads (now (text .entry)) (now (input .entry)) r (now (input .exit)) ⌝ }
+{
+    if input.len() < INPUT_ROOM {
+        return Parsed::TooShort;
+    }
+    match headings::heading(text, 0, 1, 12) {
+        Heading::Missing => Parsed::Wrong {
+            line: 1,
+            expected: Expected::Variables,
+        },
+        Heading::Found { number: n, at } => match headings::heading(text, at, 0, 255) {
+            Heading::Missing => Parsed::Wrong {
+                line: 1,
+                expected: Expected::Limit,
+            },
+            Heading::Found {
+                number: limit,
+                at: behind,
+            } => parse_body(text, behind, n, limit, input),
+        },
+    }
+}

@@ -3,11 +3,11 @@ use Prim.Native.Nat.{ℕ}
 use mathlib.Core.Path.{_≡_, refl}
 use mathlib.Core.List.{List, [], _∷_, _++_}
 use lib.IntN.{pos, negsuc}
-use Rattle.lines.specs.Reading.{isDigit, readDigits}
+use Rattle.lines.specs.Reading.{isDigit, readDigits, pieces, inFront}
 use Rattle.numbers.specs.Ranges.{within, mostVariables}
 use Rattle.numbers.specs.Lists.{every, keep}
 use Rattle.lines.specs.Text.{ascii}
-use Rattle.decimal.specs.Words.{words, lastLine, pieces, isNewline, isBlank, linesWords, lineWords, inFront, isSome}
+use Rattle.decimal.specs.Words.{words, lastLine, isNewline, isBlank, linesWords, lineWords, isSome}
 use Rattle.decimal.specs.Numbers.{numberOf, isNumberFrom, isNumber, isNegative, digitsOf, isSign}
 use Rattle.decimal.specs.Table.{Read, got, wrong, textRead, wordsRead, limitRead, bodyRead, valuesRead, isHeading, hasMore, isValueWord, Table}
 use Rattle.decimal.specs.declared.Expected.the-variants.{Variables, Limit, LineEnd, Value, TextEnd}

@@ -5,6 +5,7 @@ use mathlib.Core.List.{List, [], _∷_, _++_, map}
 use lib.Dec.{eqb}
 use lib.ListN.{length}
 use Rattle.numbers.specs.Lists.{keep}
+use Rattle.lines.specs.Reading.{pieces}
 
 -- The byte that ends a line.
 unfoldable pub isNewline : ℕ → Bool
@@ -13,16 +14,6 @@ isNewline byte = eqb byte 10
 -- Space, tab, and the carriage return that stands in front of a newline on some systems.
 unfoldable pub isBlank : ℕ → Bool
 isBlank byte = eqb byte 32 || eqb byte 9 || eqb byte 13
-
--- A byte in front of the first piece.
-unfoldable pub inFront : ℕ → List (List ℕ) → List (List ℕ)
-inFront byte [] = (byte ∷ []) ∷ []
-inFront byte (piece ∷ pieces) = (byte ∷ piece) ∷ pieces
-
--- The pieces between the bytes that pass a test, one more than there are such bytes.
-unfoldable pub pieces : (ℕ → Bool) → List ℕ → List (List ℕ)
-pieces parts [] = [] ∷ []
-pieces parts (byte ∷ text) = elim (parts byte) [ true ↦ [] ∷ pieces parts text | false ↦ inFront byte (pieces parts text) ]
 
 unfoldable pub isSome : List ℕ → Bool
 isSome [] = false

@@ -5,7 +5,8 @@ use mathlib.Core.Bool.{Bool, true, false, _||_}
 use mathlib.Core.List.{List, [], _∷_}
 use lib.ListN.{length, drop}
 use Rattle.numbers.specs.Lists.{tally}
-use Rattle.decimal.specs.Words.{isNewline, isBlank, pieces, Word, linesWords, lastLine}
+use Rattle.lines.specs.Reading.{pieces}
+use Rattle.decimal.specs.Words.{isNewline, isBlank, Word, linesWords, lastLine}
 use Rattle.decimal.specs.declared.Place.{Place}
 
 -- A byte between words.

@@ -8,7 +8,8 @@ use borrow.Author.Tests.{ne-eqb, not-true}
 use Rattle.numbers.specs.Lists.{every, keep}
 use Rattle.numbers.specs.Laws.Bools.{yes-or-no, both, and-both}
 use Rattle.numbers.specs.Laws.Selections.{keep-passed, keep-failed}
-use Rattle.decimal.specs.Words.{isNewline, isBlank, pieces, isSome, Word, lineWords, linesWords, words}
+use Rattle.lines.specs.Reading.{pieces}
+use Rattle.decimal.specs.Words.{isNewline, isBlank, isSome, Word, lineWords, linesWords, words}
 use Rattle.decimal.specs.Conditions.{isFirst, isLater, firstWords, laterWords}
 
 -- ---- tests of every element

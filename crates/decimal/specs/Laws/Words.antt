@@ -9,7 +9,8 @@ use borrow.Author.Tests.{not-true}
 use Rattle.numbers.specs.Lists.{every, keep, tally}
 use Rattle.numbers.specs.Laws.Bools.{yes-or-no, both}
 use Rattle.numbers.specs.Laws.Selections.{keep-passed, keep-failed, keep-length}
-use Rattle.decimal.specs.Words.{isNewline, isBlank, inFront, pieces, isSome, Word, lineWords, linesWords, lastLine}
+use Rattle.lines.specs.Reading.{inFront, pieces}
+use Rattle.decimal.specs.Words.{isNewline, isBlank, isSome, Word, lineWords, linesWords, lastLine}
 use Rattle.decimal.specs.Inner.Places.{isSeparator, lineAfter, wordsFrom, newlines}
 
 -- ---- tests of a byte

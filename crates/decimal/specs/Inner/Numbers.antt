@@ -35,11 +35,11 @@ unfoldable pub signedSize : ℕ → Bool → ℤ
 signedSize size negative = elim negative [ true ↦ negℤ (pos size) | false ↦ pos size ]
 
 -- A number of 32 bits.
-abbrev pub has32Bits : ℤ → Bool
-has32Bits z = within (negℤ (pos 2147483648)) (pos 2147483647) z
+abbrev pub isWhole : ℤ → Bool
+isWhole z = within (negℤ (pos 2147483648)) (pos 2147483647) z
 
 unfoldable pub wholeNumber : ℤ → Number
-wholeNumber z = elim (has32Bits z) [ true ↦ Whole z | false ↦ NotWhole ]
+wholeNumber z = elim (isWhole z) [ true ↦ Whole z | false ↦ NotWhole ]
 
 unfoldable pub signedNumber : ℕ → Bool → Number
 signedNumber size negative = wholeNumber (signedSize size negative)

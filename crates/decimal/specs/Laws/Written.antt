@@ -19,7 +19,7 @@ use Rattle.decimal.specs.Words.{isNewline, isBlank, isSome, Word, words,
 use Rattle.decimal.specs.Numbers.{isSign, digitsOf, isNegative, isNumber, numberOf, isNumberFrom}
 use Rattle.decimal.specs.Table.{got, mapRead, Table, isValueWord, valuesRead, isHeading, hasMore, bodyRead, limitRead, wordsRead, textRead}
 use Rattle.decimal.specs.Text.{valueLine, tableText}
-use Rattle.decimal.specs.Inner.Numbers.{has32Bits}
+use Rattle.decimal.specs.Inner.Numbers.{isWhole}
 use Rattle.decimal.specs.Inner.Places.{isSeparator, lineAfter, wordsFrom}
 use Rattle.decimal.specs.Laws.Words.{isInner, stops, separator-passed, no-words, word-first}
 use Rattle.decimal.specs.Laws.Values.{value-read}
@@ -113,11 +113,11 @@ unfolding flatMap valueLine isSeparator isNewline lineAfter
 value-first line value values = ap (wordsFrom line) (append-assoc (decimal value) (10 ∷ []) (flatMap valueLine values)) ∙ decimal-first line value 10 (flatMap valueLine values) refl
 
 -- Values of 32 bits, a line each.
-values-back : (end line : ℕ) (values : List ℤ) → every has32Bits values ≡ true → valuesRead end (length values) (wordsFrom line (flatMap valueLine values)) ≡ got values
+values-back : (end line : ℕ) (values : List ℤ) → every isWhole values ≡ true → valuesRead end (length values) (wordsFrom line (flatMap valueLine values)) ≡ got values
 unfolding flatMap every valuesRead isValueWord
 values-back end line [] e = ap (valuesRead end 0) (no-words line)
 values-back end line (value ∷ values) e =
-    let parts = both (has32Bits value) (every has32Bits values) e in
+    let parts = both (isWhole value) (every isWhole values) e in
     let word : Word = record { line = line; bytes = decimal value } in
     let more = wordsFrom (suc line) (flatMap valueLine values) in
     ap (valuesRead end (suc (length values))) (value-first line value values)
@@ -144,7 +144,7 @@ first-line n limit rest =
     ∙ decimal-first 1 (pos n) 32 (decimal (pos limit) ++ 10 ∷ rest) refl
     ∙ ap (λ more. record { line = 1; bytes = decimal (pos n) } ∷ more) (decimal-first 1 (pos limit) 10 rest refl)
 
-pub table-back : (table : Table) → 1 ≤ table .n → table .n ≤ 12 → table .limit ≤ 255 → length (table .values) ≡ 2 ^ table .n → every has32Bits (table .values) ≡ true → textRead (tableText table) ≡ got table
+pub table-back : (table : Table) → 1 ≤ table .n → table .n ≤ 12 → table .limit ≤ 255 → length (table .values) ≡ 2 ^ table .n → every isWhole (table .values) ≡ true → textRead (tableText table) ≡ got table
 unfolding textRead tableText
 table-back table some few small count fits =
     ap (wordsRead end) text-words

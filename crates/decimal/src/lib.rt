@@ -4,11 +4,8 @@ mod numerals;
 mod values;
 mod words;
 
-ghost use mathlib.Core.Path.{_≡_};
-ghost use Rattle.decimal.specs.Words.{lastLine};
-ghost use Rattle.decimal.specs.Table.{bodyRead, parsed, parsedBuffer, Reads};
-ghost use Rattle.decimal.specs.Inner.Places.{wordsAt};
-ghost use Rattle.decimal.specs.Inner.Values.{BodyReady};
+ghost use Rattle.decimal.specs.Table.{Reads};
+ghost use Rattle.decimal.specs.Inner.Values.{bodyAt, Answers, BodyReady};
 
 // The bytes of a buffer that holds every input.
 const INPUT_ROOM: usize = 16386;
@@ -75,8 +72,7 @@ enum Checked {
 // What follows n and the limit on the first line, from the place behind them.
 fn parse_body(text: &[u8], at: usize, n: usize, limit: usize, input: &mut [u8]) -> Parsed
     requires { ⌜ BodyReady (now text) at n limit (now input) ⌝ }
-    ensures { λ r. ⌜ r ≡ parsed (bodyRead (lastLine (now (text .entry))) n limit (wordsAt (now (text .entry)) (record { at = at; line = 1 }))) ⌝ }
-    ensures { λ _. ⌜ now (input .exit) ≡ parsedBuffer (bodyRead (lastLine (now (text .entry))) n limit (wordsAt (now (text .entry)) (record { at = at; line = 1 }))) (now (input .entry)) ⌝ }
+    ensures { λ r. ⌜ Answers (bodyAt (now (text .entry)) at n limit) (now (input .entry)) r (now (input .exit)) ⌝ }
 {
     if headings::has_more(text, at) {
         return Parsed::Wrong {

@@ -5,10 +5,9 @@ ghost use Prim.Native.Nat.{_+_, _*_, _≤_};
 ghost use lib.ListN.{length};
 ghost use Rattle.numbers.specs.Inner.Rows.{overwritten};
 ghost use Rattle.operands.specs.Bytes.{signedBytes};
-ghost use Rattle.decimal.specs.Words.{lastLine};
-ghost use Rattle.decimal.specs.Table.{valuesRead, inputOf};
-ghost use Rattle.decimal.specs.Inner.Places.{wordsAt, PlaceIn};
-ghost use Rattle.decimal.specs.Inner.Values.{checked, valuesFound, InputReady};
+ghost use Rattle.decimal.specs.Table.{inputOf};
+ghost use Rattle.decimal.specs.Inner.Places.{PlaceIn};
+ghost use Rattle.decimal.specs.Inner.Values.{valuesAt, checked, ReadsValues, InputReady};
 use crate::Checked;
 use crate::Expected;
 use crate::Item;
@@ -18,7 +17,7 @@ use crate::words;
 // That no word is left from a place on.
 fn check_end(text: &[u8], place: Place) -> Checked
     requires { ⌜ PlaceIn (now text) place ⌝ }
-    ensures { λ r. ⌜ r ≡ checked (valuesRead (lastLine (now (text .entry))) 0 (wordsAt (now (text .entry)) place)) ⌝ }
+    ensures { λ r. ⌜ r ≡ checked (valuesAt (now (text .entry)) place 0) ⌝ }
 {
     let next = words::skip(text, place);
     if text.len() <= next.at {
@@ -35,8 +34,7 @@ fn check_end(text: &[u8], place: Place) -> Checked
 pub(crate) fn read_values(text: &[u8], start: Place, count: usize, values: &mut [i32]) -> Checked
     requires { ⌜ PlaceIn (now text) start ⌝ }
     requires { ⌜ count ≤ length (now values) ⌝ }
-    ensures { λ r. ⌜ r ≡ checked (valuesRead (lastLine (now (text .entry))) count (wordsAt (now (text .entry)) start)) ⌝ }
-    ensures { λ _. ⌜ now (values .exit) ≡ overwritten (now (values .entry)) 0 (valuesFound count (wordsAt (now (text .entry)) start)) ⌝ }
+    ensures { λ r. ⌜ ReadsValues (now (text .entry)) start count (now (values .entry)) r (now (values .exit)) ⌝ }
 {
     let mut place = start;
     let mut j = 0;

@@ -1,17 +1,18 @@
 -- `decimal::parse` meets its contract: n, the limit, and what follows them. Assumes nothing.
 use Prim.Native.Nat.{ℕ, _≤_}
-use mathlib.Core.Path.{_≡_, sym, _∙_, subst}
+use mathlib.Core.Path.{_≡_, refl, sym, _∙_, subst}
 use mathlib.Core.List.{List}
 use native.Mathlib.Omega.{arith}
 use lib.ListN.{length}
 use Rattle.numbers.specs.Ranges.{mostVariables}
 use Rattle.decimal.specs.Words.{lastLine}
 use Rattle.decimal.specs.Table.{textRead, bodyRead, inputRoom}
+use Rattle.decimal.specs.declared.Expected.the-variants.{Variables, Limit}
 use Rattle.decimal.specs.declared.Heading.{Heading}
 use Rattle.decimal.specs.Inner.Places.{wordsAt}
 use Rattle.decimal.specs.Laws.Places.{start-place}
 use Rattle.decimal.specs.Laws.Items.{HeadingFound, HeadingSeen, heading-seen}
-use Rattle.decimal.specs.Laws.Tables.{no-variables, variables-first, no-limit, limit-second, reads-short, reads-enough, reads-wrong}
+use Rattle.decimal.specs.Laws.Tables.{no-variables, variables-first, no-limit, limit-second, wrong-answers, reads-short, reads-enough}
 use borrow.Author.Needs.{needs}
 use Rattle.decimal.proofs.parse.Statement.{statement}
 use Rattle.decimal.proofs.parse.Tie as tie
@@ -94,7 +95,7 @@ returns-2 : tie.Need-returns-2
 returns-2 c =
     let h = c .before .before in
     let a = start h .args in
-    reads-wrong (text h) (a .input .now) (enough h) (no-variables (text h) (first-seen h (c .enum-told .given .1)))
+    reads-enough (text h) (a .input .now) (enough h) (no-variables (text h) (first-seen h (c .enum-told .given .1))) (wrong-answers 1 Variables (a .input .now) refl)
 
 returns-3 : tie.Need-returns-3
 returns-3 c =
@@ -102,7 +103,7 @@ returns-3 c =
     let h = begun (behind m) in
     let a = start h .args in
     let w = variables-first (text h) (n-found (behind m)) ∙ no-limit (text h) (behind m .n .given .0 .0) (at m) (second-seen m (c .enum-told2 .given .1)) in
-    reads-wrong (text h) (a .input .now) (enough h) w
+    reads-enough (text h) (a .input .now) (enough h) w (wrong-answers 1 Limit (a .input .now) refl)
 
 same-length : tie.Need-same-length
 same-length c = search needs
@@ -113,7 +114,7 @@ returns-4 c =
     let l = b .before .before .before in
     let h = begun (behind (next l)) in
     let a = start h .args in
-    reads-enough (text h) (a .input .now) (enough h) (text-is l) (b .parse-body .ensures .0) (b .parse-body .ensures .1)
+    reads-enough (text h) (a .input .now) (enough h) (text-is l) (b .parse-body .ensures)
 
 pub parse-spec : {M : Type 1} → statement M
 parse-spec =

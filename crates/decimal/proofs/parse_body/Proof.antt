@@ -16,7 +16,7 @@ use Rattle.decimal.specs.Inner.Places.{wordsAt}
 use Rattle.decimal.specs.Inner.Values.{checked, valuesFound}
 use Rattle.decimal.specs.Laws.Values.{good-values}
 use Rattle.decimal.specs.Laws.Buffers.{front-taken}
-use Rattle.decimal.specs.Laws.Tables.{body-more, body-wrong, body-good, wrong-parsed, wrong-buffer, got-parsed, got-buffer}
+use Rattle.decimal.specs.Laws.Tables.{body-more, body-wrong, body-good, wrong-answers, got-answers}
 use borrow.Author.Needs.{needs}
 use Rattle.decimal.proofs.parse_body.Statement.{statement}
 use Rattle.decimal.proofs.parse_body.Tie as tie
@@ -57,7 +57,7 @@ returns : tie.Need-returns
 returns c =
     let s = start (c .before) in
     let more = body-more (end s) (s .args .n) (s .args .limit) (words s) (sym (c .before .has-more .ensures) ∙ c .if1 .taken) in
-    (wrong-parsed (body s) 1 LineEnd more, wrong-buffer (body s) 1 LineEnd (s .args .input .now) more)
+    wrong-answers 1 LineEnd (s .args .input .now) more
 
 power-requires : tie.Need-power-requires
 power-requires c κs = search needs
@@ -91,7 +91,7 @@ module _ (c : tie.After-enum-told) where
   read = c .before .before .before
 
   good : checked (valuesRead (end (first read)) (count read) (words (first read))) ≡ Good
-  good = sym (read .read-values .ensures .0) ∙ c .enum-told .given .1
+  good = sym (read .read-values .ensures .answered) ∙ c .enum-told .given .1
 
   abbrev table : Table
   table = record { n = first read .args .n; limit = first read .args .limit; values = valuesFound (count read) (words (first read)) }
@@ -103,7 +103,7 @@ module _ (c : tie.After-enum-told) where
   many = good-values (end (first read)) (count read) (words (first read)) good .1
 
   front : take (count read) (row read) ≡ table .values
-  front = front-taken (replicate 4096 (pos 0)) (table .values) (count read) (read .read-values .ensures .1) many
+  front = front-taken (replicate 4096 (pos 0)) (table .values) (count read) (read .read-values .ensures .left) many
 
 enum-known-line : tie.Need-enum-known-line
 enum-known-line c = search needs
@@ -140,7 +140,7 @@ module _ (c : tie.After-known-told) where
   failed = c .before .before .before .before
 
   bad : checked (valuesRead (end (first failed)) (count failed) (words (first failed))) ≡ NotGood (c .before .line .given .0 .0) (c .before .line .given .0 .1 .0)
-  bad = sym (failed .read-values .ensures .0) ∙ c .before .line .given .1
+  bad = sym (failed .read-values .ensures .answered) ∙ c .before .line .given .1
 
   body-fails : body (first failed) ≡ wrong (c .before .line .given .0 .0) (c .before .line .given .0 .1 .0)
   body-fails =
@@ -148,11 +148,7 @@ module _ (c : tie.After-known-told) where
       body-wrong (end s) (s .args .n) (s .args .limit) (words s) (none-more (counted failed)) (count failed) (counted failed .power .ensures) (c .before .line .given .0 .0) (c .before .line .given .0 .1 .0) bad
 
 returns-2 : tie.Need-returns-2
-returns-2 c =
-    let s = first (failed c) in
-    let line = c .before .line .given .0 .0 in
-    let expected = c .before .line .given .0 .1 .0 in
-    (wrong-parsed (body s) line expected (body-fails c), wrong-buffer (body s) line expected (s .args .input .now) (body-fails c))
+returns-2 c = wrong-answers _ _ (first (failed c) .args .input .now) (body-fails c)
 
 same-length : tie.Need-same-length
 same-length c = search needs
@@ -162,7 +158,7 @@ returns-3 c =
     let t = c .before .before .before .before .before in
     let s = first (read t) in
     let written = rw (front t) at (c .before .before .write-input .ensures) in
-    (got-parsed (body s) (table t) (count (read t)) (body-is t) (many t), got-buffer (body s) (table t) (s .args .input .now) (body-is t) written)
+    got-answers (table t) (count (read t)) (s .args .input .now) (body-is t) (many t) written
 
 pub parse-body-spec : {M : Type 1} → statement M
 parse-body-spec =

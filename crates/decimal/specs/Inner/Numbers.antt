@@ -34,9 +34,12 @@ signLength first = elim (isSign first) [ true ↦ 1 | false ↦ 0 ]
 unfoldable pub signedSize : ℕ → Bool → ℤ
 signedSize size negative = elim negative [ true ↦ negℤ (pos size) | false ↦ pos size ]
 
--- A number where it has 32 bits.
+-- A number of 32 bits.
+abbrev pub isWhole : ℤ → Bool
+isWhole z = within (negℤ (pos 2147483648)) (pos 2147483647) z
+
 unfoldable pub wholeNumber : ℤ → Number
-wholeNumber z = elim (within (negℤ (pos 2147483648)) (pos 2147483647) z) [ true ↦ Whole z | false ↦ NotWhole ]
+wholeNumber z = elim (isWhole z) [ true ↦ Whole z | false ↦ NotWhole ]
 
 unfoldable pub signedNumber : ℕ → Bool → Number
 signedNumber size negative = wholeNumber (signedSize size negative)

@@ -1,15 +1,27 @@
 -- The values of a text, and the buffer for its input.
 use Prim.Native.Nat.{ℕ, zero, suc, _+_, _*_, _≤_}
+use mathlib.Core.Path.{_≡_}
 use mathlib.Core.Bool.{true, false}
 use mathlib.Core.List.{List, [], _∷_}
 use lib.ListN.{length}
 use lib.IntN.{ℤ}
-use Rattle.decimal.specs.Words.{Word}
+use Rattle.numbers.specs.Inner.Rows.{overwritten}
+use Rattle.decimal.specs.Words.{Word, lastLine}
 use Rattle.decimal.specs.Numbers.{numberOf}
-use Rattle.decimal.specs.Table.{Read, got, wrong, isValueWord, inputRoom}
+use Rattle.decimal.specs.Table.{Read, got, wrong, Table, isValueWord, valuesRead, bodyRead, inputRoom, parsed, parsedBuffer}
+use Rattle.decimal.specs.declared.Place.{Place}
+use Rattle.decimal.specs.declared.Parsed.{Parsed}
 use Rattle.decimal.specs.declared.Checked.{Checked}
 use Rattle.decimal.specs.declared.Checked.the-variants.{Good, Wrong}
-use Rattle.decimal.specs.Inner.Places.{PlaceIn}
+use Rattle.decimal.specs.Inner.Places.{wordsAt, PlaceIn}
+
+-- So many values from a place on, and then nothing more.
+abbrev pub valuesAt : List ℕ → Place → ℕ → Read (List ℤ)
+valuesAt text place count = valuesRead (lastLine text) count (wordsAt text place)
+
+-- What follows n and the limit, from a place on the first line.
+abbrev pub bodyAt : List ℕ → ℕ → ℕ → ℕ → Read Table
+bodyAt text at n limit = bodyRead (lastLine text) n limit (wordsAt text (record { at = at; line = 1 }))
 
 -- The answer for what values give.
 unfoldable pub checked : {A : Type 0} → Read A → Checked
@@ -21,6 +33,16 @@ unfoldable pub valuesFound : ℕ → List Word → List ℤ
 valuesFound zero words = []
 valuesFound (suc count) [] = []
 valuesFound (suc count) (word ∷ more) = elim (isValueWord (word .bytes)) [ true ↦ numberOf (word .bytes) ∷ valuesFound count more | false ↦ [] ]
+
+-- Whether the values from a place on are all there, and the row with those found in front.
+pub record ReadsValues (text : List ℕ) (place : Place) (count : ℕ) (row : List ℤ) (answer : Checked) (row′ : List ℤ) : Type 0 where
+  pub answered : answer ≡ checked (valuesAt text place count)
+  pub left : row′ ≡ overwritten row 0 (valuesFound count (wordsAt text place))
+
+-- The answer for what was read, and the buffer.
+pub record Answers (read : Read Table) (buffer : List ℕ) (answer : Parsed) (buffer′ : List ℕ) : Type 0 where
+  pub answered : answer ≡ parsed read
+  pub left : buffer′ ≡ parsedBuffer read buffer
 
 -- A table of bytes, and a buffer that holds its input.
 pub record InputReady (n limit : ℕ) (values : List ℤ) (buffer : List ℕ) : Type 0 where

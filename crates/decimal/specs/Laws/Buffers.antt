@@ -16,7 +16,7 @@ use Rattle.lines.specs.Inner.Writing.{Writes}
 use Rattle.decimal.specs.Table.{Table, inputOf}
 
 -- Four bytes a value.
-pub signed-length : (z : ℤ) → length (signedBytes z) ≡ 4
+signed-length : (z : ℤ) → length (signedBytes z) ≡ 4
 unfolding signedBytes
 signed-length z = length-bigEndian 4 _
 

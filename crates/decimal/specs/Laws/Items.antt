@@ -6,7 +6,7 @@ use mathlib.Core.List.{List, [], _∷_}
 use native.Mathlib.Omega.{arith}
 use lib.ListN.{length}
 use lib.Dec.{leb, eqb}
-use lib.IntN.{ℤ, pos, negsuc, negℤ}
+use lib.IntN.{ℤ, pos, negsuc}
 use lib.Signed.{mag}
 use borrow.Author.Tests.{le-leb, lt-leb, leb-true, leb-false, eqb-true, eqb-false, eq-eqb, ne-eqb}
 use Rattle.numbers.specs.Ranges.{within}
@@ -20,7 +20,7 @@ use Rattle.decimal.specs.declared.Item.the-variants.{Valued, Other, Ende
 use Rattle.decimal.specs.declared.Heading.{Heading}
 use Rattle.decimal.specs.declared.Heading.the-variants.{Found, Missing}
 use Rattle.decimal.specs.Inner.Places.{wordsAt, PlaceIn, skipped}
-use Rattle.decimal.specs.Inner.Numbers.{wordNumber}
+use Rattle.decimal.specs.Inner.Numbers.{isWhole, wordNumber}
 use Rattle.decimal.specs.Inner.Items.{wordThere, wordBehind, wordItem, itemThere, itemAt, headingOf, headingAt}
 use Rattle.decimal.specs.Laws.Places.{Skipped, skipped-is, ended-words, ended-line, WordFirst, word-is}
 use Rattle.decimal.specs.Laws.Numbers.{one-fails, value-word, other-word}
@@ -110,7 +110,7 @@ module _ (low high : ℤ) (number : ℤ) (line at : ℕ) where
   heading-outside e w = rw (eq-eqb line 1 e, w, headingOf)
 
 -- A range from 0 or more up to a number of 32 bits is narrower than 32 bits.
-narrower : (low high : ℕ) (z : ℤ) → high ≤ 2147483647 → within (pos low) (pos high) z ≡ true → within (negℤ (pos 2147483648)) (pos 2147483647) z ≡ true
+narrower : (low high : ℕ) (z : ℤ) → high ≤ 2147483647 → within (pos low) (pos high) z ≡ true → isWhole z ≡ true
 unfolding within
 narrower low high (pos a) few e = let h = leb-true a high (both (leb low a) (leb a high) e .1) in le-leb a 2147483647 (omega arith)
 narrower low high (negsuc a) few e = absurd (false≢true e)
@@ -149,7 +149,7 @@ heading-seen text at low high few p = by-item (itemAt text place) (item-seen p)
     found number next s w = record {
       word = s .word;
       first = s .first;
-      heads = and-both (isNumber (s .word)) (within (pos low) (pos high) (numberOf (s .word))) (both (isNumber (s .word)) (within (negℤ (pos 2147483648)) (pos 2147483647) (numberOf (s .word))) (s .value) .0) (ap (within (pos low) (pos high)) (sym (s .number-is)) ∙ w);
+      heads = and-both (isNumber (s .word)) (within (pos low) (pos high) (numberOf (s .word))) (both (isNumber (s .word)) (isWhole (numberOf (s .word))) (s .value) .0) (ap (within (pos low) (pos high)) (sym (s .number-is)) ∙ w);
       number-is = ap mag (s .number-is);
       bounds = in-range low high number w;
       placed = s .placed;
@@ -180,6 +180,6 @@ heading-seen text at low high few p = by-item (itemAt text place) (item-seen p)
             yes-or-no (isNumber (s .word) && within (pos low) (pos high) (numberOf (s .word)))
             (λ e.
             let parts = both (isNumber (s .word)) (within (pos low) (pos high) (numberOf (s .word))) e in
-            absurd (false≢true (sym (s .value) ∙ and-both (isNumber (s .word)) (within (negℤ (pos 2147483648)) (pos 2147483647) (numberOf (s .word))) (parts .0) (narrower low high (numberOf (s .word)) few (parts .1)))))
+            absurd (false≢true (sym (s .value) ∙ and-both (isNumber (s .word)) (isWhole (numberOf (s .word))) (parts .0) (narrower low high (numberOf (s .word)) few (parts .1)))))
             (λ e. e)
     by-item (Ended line) s = λ word more e. let none = s .none in let z : _≡_ {A = ℕ} 0 1 = cc in absurd (omega arith)

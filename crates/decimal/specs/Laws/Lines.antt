@@ -15,7 +15,7 @@ use Rattle.decimal.specs.Conditions.{isFirst, isLater, firstWords, later
 -- ---- tests of every element
 
 module _ {A : Type 0} (test : A → Bool) where
-  pub every-append : (left right : List A) → every test left ≡ true → every test right ≡ true → every test (left ++ right) ≡ true
+  every-append : (left right : List A) → every test left ≡ true → every test right ≡ true → every test (left ++ right) ≡ true
   unfolding every
   every-append [] right l r = r
   every-append (a ∷ left) right l r =
@@ -23,7 +23,7 @@ module _ {A : Type 0} (test : A → Bool) where
       and-both (test a) (every test (left ++ right)) (parts .0) (every-append left right (parts .1) r)
 
   -- What is kept passes.
-  pub every-kept : (l : List A) → every test (keep test l) ≡ true
+  every-kept : (l : List A) → every test (keep test l) ≡ true
   unfolding every keep
   every-kept [] = refl
   every-kept (a ∷ l) =
@@ -32,13 +32,13 @@ module _ {A : Type 0} (test : A → Bool) where
       (λ e. rw (keep-failed test a l e) (every-kept l))
 
   -- All are kept where all pass.
-  pub keep-every : (l : List A) → every test l ≡ true → keep test l ≡ l
+  keep-every : (l : List A) → every test l ≡ true → keep test l ≡ l
   unfolding every keep
   keep-every [] e = refl
   keep-every (a ∷ l) e = let parts = both (test a) (every test l) e in keep-passed test a l (parts .0) ∙ ap (λ kept. a ∷ kept) (keep-every l (parts .1))
 
   -- None is kept where all fail.
-  pub keep-none-of : (l : List A) → every (λ a. not (test a)) l ≡ true → keep test l ≡ []
+  keep-none-of : (l : List A) → every (λ a. not (test a)) l ≡ true → keep test l ≡ []
   unfolding every keep
   keep-none-of [] e = refl
   keep-none-of (a ∷ l) e = let parts = both (not (test a)) (every (λ a. not (test a)) l) e in keep-failed test a l (not-true (test a) (parts .0)) ∙ keep-none-of l (parts .1)

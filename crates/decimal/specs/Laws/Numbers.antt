@@ -7,7 +7,7 @@ use native.Mathlib.Nat.{le-refl}
 use native.Mathlib.Omega.{arith}
 use lib.ListN.{length, getD, drop, drop-of-length-le}
 use lib.Dec.{leb, eqb}
-use lib.IntN.{ℤ, pos, negsuc, negℤ, _-ℤ_}
+use lib.IntN.{ℤ, pos, negsuc, _-ℤ_}
 use borrow.Author.Tests.{leb-true, le-leb, lt-leb, leb-false}
 use Rattle.numbers.specs.Lists.{every}
 use Rattle.numbers.specs.Ranges.{within}
@@ -18,13 +18,13 @@ use Rattle.decimal.specs.Numbers.{isSign, digitsOf, isNegative, isNumber
 use Rattle.decimal.specs.Table.{isValueWord}
 use Rattle.decimal.specs.declared.Digits.the-variants.{Small, NotSmall}
 use Rattle.decimal.specs.declared.Number.the-variants.{Whole, NotWhole}
-use Rattle.decimal.specs.Inner.Numbers.{largestSize, isSmall, smallNumber, signLength, signedSize, wholeNumber, signedNumber, wordNumber}
+use Rattle.decimal.specs.Inner.Numbers.{isWhole, largestSize, isSmall, smallNumber, signLength, signedSize, wholeNumber, signedNumber, wordNumber}
 use Rattle.decimal.specs.Laws.Places.{byte-there}
 
 -- ---- digit by digit
 
 -- More digits make a number no smaller.
-pub read-grows : (soFar : ℕ) (digits : List ℕ) → soFar ≤ readDigits soFar digits
+read-grows : (soFar : ℕ) (digits : List ℕ) → soFar ≤ readDigits soFar digits
 unfolding readDigits
 read-grows soFar [] = le-refl soFar
 read-grows soFar (digit ∷ more) = let g = read-grows (10 * soFar + (digit - 48)) more in omega arith
@@ -99,11 +99,11 @@ module _ (word : List ℕ) (start : ℕ) where
 -- ---- the sign
 
 -- A number with a sign, of 32 bits or not.
-whole-is : (z : ℤ) → within (negℤ (pos 2147483648)) (pos 2147483647) z ≡ true → wholeNumber z ≡ Whole z
+whole-is : (z : ℤ) → isWhole z ≡ true → wholeNumber z ≡ Whole z
 unfolding wholeNumber
 whole-is z e = rw (e, wholeNumber)
 
-not-whole : (z : ℤ) → within (negℤ (pos 2147483648)) (pos 2147483647) z ≡ false → wholeNumber z ≡ NotWhole
+not-whole : (z : ℤ) → isWhole z ≡ false → wholeNumber z ≡ NotWhole
 unfolding wholeNumber
 not-whole z e = rw (e, wholeNumber)
 
@@ -167,13 +167,13 @@ module _ (word : List ℕ) where
   number-word : isNumber word ≡ true → wordNumber word ≡ wholeNumber (numberOf word)
   unfolding isValueWord isNumberFrom
   number-word e =
-      yes-or-no (within (negℤ (pos 2147483648)) (pos 2147483647) (numberOf word))
-      (λ w. value-word (and-both (isNumber word) (within (negℤ (pos 2147483648)) (pos 2147483647) (numberOf word)) e w) ∙ sym (whole-is (numberOf word) w))
-      (λ w. other-word (one-fails (isNumber word) (within (negℤ (pos 2147483648)) (pos 2147483647) (numberOf word)) w) ∙ sym (not-whole (numberOf word) w))
+      yes-or-no (isWhole (numberOf word))
+      (λ w. value-word (and-both (isNumber word) (isWhole (numberOf word)) e w) ∙ sym (whole-is (numberOf word) w))
+      (λ w. other-word (one-fails (isNumber word) (isWhole (numberOf word)) w) ∙ sym (not-whole (numberOf word) w))
 
   no-number-word : isNumber word ≡ false → wordNumber word ≡ NotWhole
   unfolding isValueWord isNumberFrom
-  no-number-word e = other-word (ap (λ b. b && within (negℤ (pos 2147483648)) (pos 2147483647) (numberOf word)) e)
+  no-number-word e = other-word (ap (λ b. b && isWhole (numberOf word)) e)
 
 pub empty-word : (word : List ℕ) → length word ≡ 0 → wordNumber word ≡ NotWhole
 unfolding isNumber digitsOf isSome

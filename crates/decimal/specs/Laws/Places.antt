@@ -41,7 +41,7 @@ unfoldable pub stepped : List ℕ → Place → Place
 stepped text place = record { at = place .at + 1; line = lineAfter (getD text (place .at) 0) (place .line) }
 
 module _ {text : List ℕ} {place : Place} (p : PlaceIn text place) (l : place .at < length text) where
-  pub step-place : PlaceIn text (stepped text place)
+  step-place : PlaceIn text (stepped text place)
   unfolding stepped
   step-place =
       let byte = getD text (place .at) 0 in
@@ -53,11 +53,11 @@ module _ {text : List ℕ} {place : Place} (p : PlaceIn text place) (l : place .
 
   module _ (e : isSeparator (getD text (place .at) 0) ≡ true) where
     -- A separator is passed over.
-    pub step-skipped : skipped text (stepped text place) ≡ skipped text place
+    step-skipped : skipped text (stepped text place) ≡ skipped text place
     unfolding stepped skipped skippedFrom
     step-skipped = sym (ap (λ rest. skippedFrom rest (place .at) (place .line)) (byte-there text (place .at) l) ∙ rw (e, skippedFrom, add-one (place .at)))
 
-    pub step-words : wordsAt text (stepped text place) ≡ wordsAt text place
+    step-words : wordsAt text (stepped text place) ≡ wordsAt text place
     unfolding stepped wordsAt
     step-words = sym (ap (wordsFrom (place .line)) (byte-there text (place .at) l) ∙ separator-passed (getD text (place .at) 0) (place .line) (drop (place .at + 1) text) e)
 

@@ -20,7 +20,7 @@ use Rattle.decimal.specs.declared.Parsed.the-variants.{Input, Wrong, Too
 use Rattle.decimal.specs.declared.Checked.the-variants.{Good, Wrong as NotGood}
 use Rattle.decimal.specs.declared.Heading.the-variants.{Missing}
 use Rattle.decimal.specs.Inner.Places.{wordsAt}
-use Rattle.decimal.specs.Inner.Values.{checked, valuesFound}
+use Rattle.decimal.specs.Inner.Values.{checked, valuesFound, Answers}
 use Rattle.decimal.specs.Laws.Places.{start-words}
 use Rattle.decimal.specs.Laws.Items.{HeadingFound, HeadingSeen}
 use Rattle.decimal.specs.Laws.Values.{good-values}
@@ -109,22 +109,19 @@ module _ (end n limit : ℕ) (words : List Word) where
 
 -- ---- the answer
 
-module _ (read : Read Table) where
-  pub wrong-parsed : (line : ℕ) (expected : Expected) → read ≡ wrong line expected → Wrong line expected ≡ parsed read
-  unfolding parsed
-  wrong-parsed line expected e = sym (ap parsed e)
+module _ {read : Read Table} where
+  -- Where the text is wrong the buffer is left.
+  pub wrong-answers : (line : ℕ) (expected : Expected) (buffer : List ℕ) → read ≡ wrong line expected → Answers read buffer (Wrong line expected) buffer
+  unfolding parsed parsedBuffer
+  wrong-answers line expected buffer e = record { answered = sym (ap parsed e); left = sym (ap (λ read. parsedBuffer read buffer) e) }
 
-  pub wrong-buffer : (line : ℕ) (expected : Expected) (buffer : List ℕ) → read ≡ wrong line expected → buffer ≡ parsedBuffer read buffer
-  unfolding parsedBuffer
-  wrong-buffer line expected buffer e = sym (ap (λ read. parsedBuffer read buffer) e)
-
-  pub got-parsed : (table : Table) (count : ℕ) → read ≡ got table → length (table .values) ≡ count → Input (2 + 4 * count) ≡ parsed read
-  unfolding parsed
-  got-parsed table count e c = sym (ap parsed e ∙ ap Input (input-length table ∙ ap (λ k. 2 + 4 * k) c))
-
-  pub got-buffer : (table : Table) (buffer : List ℕ) {buffer′ : List ℕ} → read ≡ got table → buffer′ ≡ overwritten buffer 0 (inputOf table) → buffer′ ≡ parsedBuffer read buffer
-  unfolding parsedBuffer
-  got-buffer table buffer e w = w ∙ overwritten-front buffer (inputOf table) ∙ sym (ap (λ read. parsedBuffer read buffer) e)
+  -- Else it has the input in front.
+  pub got-answers : (table : Table) (count : ℕ) (buffer : List ℕ) {buffer′ : List ℕ} → read ≡ got table → length (table .values) ≡ count → buffer′ ≡ overwritten buffer 0 (inputOf table) → Answers read buffer (Input (2 + 4 * count)) buffer′
+  unfolding parsed parsedBuffer
+  got-answers table count buffer e c w = record {
+    answered = sym (ap parsed e ∙ ap Input (input-length table ∙ ap (λ k. 2 + 4 * k) c));
+    left = w ∙ overwritten-front buffer (inputOf table) ∙ sym (ap (λ read. parsedBuffer read buffer) e);
+  }
 
 module _ (text buffer : List ℕ) where
   -- A buffer that does not hold every input.
@@ -132,14 +129,9 @@ module _ (text buffer : List ℕ) where
   unfolding inputRoom mostVariables
   reads-short l = let short = lt-leb 16386 (length buffer) l in record { answered = rw short; left = rw short }
 
-  -- A buffer that does: the answer and the input are those of what the text gives.
-  pub reads-enough : {read : Read Table} {answer : Parsed} {buffer′ : List ℕ} → 16386 ≤ length buffer → textRead text ≡ read → answer ≡ parsed read → buffer′ ≡ parsedBuffer read buffer → Reads text buffer answer buffer′
+  -- A buffer that does: the answer and the buffer are those of what the text gives.
+  pub reads-enough : {read : Read Table} {answer : Parsed} {buffer′ : List ℕ} → 16386 ≤ length buffer → textRead text ≡ read → Answers read buffer answer buffer′ → Reads text buffer answer buffer′
   unfolding inputRoom mostVariables
-  reads-enough l e a b =
+  reads-enough l e a =
       let enough = le-leb 16386 (length buffer) l in
-      record { answered = rw enough (a ∙ sym (ap parsed e)); left = rw enough (b ∙ sym (ap (λ read. parsedBuffer read buffer) e)) }
-
-  -- The text is wrong.
-  pub reads-wrong : {line : ℕ} {expected : Expected} → 16386 ≤ length buffer → textRead text ≡ wrong line expected → Reads text buffer (Wrong line expected) buffer
-  unfolding parsed parsedBuffer
-  reads-wrong l e = reads-enough l e refl refl
+      record { answered = rw enough (a .answered ∙ sym (ap parsed e)); left = rw enough (a .left ∙ sym (ap (λ read. parsedBuffer read buffer) e)) }

@@ -27,7 +27,7 @@ module _ (end count : ℕ) (word : Word) (more : List Word) where
   unfolding valuesRead
   value-read e = rw (e, valuesRead)
 
-  pub value-found : isValueWord (word .bytes) ≡ true → valuesFound (suc count) (word ∷ more) ≡ numberOf (word .bytes) ∷ valuesFound count more
+  value-found : isValueWord (word .bytes) ≡ true → valuesFound (suc count) (word ∷ more) ≡ numberOf (word .bytes) ∷ valuesFound count more
   unfolding valuesFound
   value-found e = rw (e, valuesFound)
 
@@ -35,7 +35,7 @@ module _ (end count : ℕ) (word : Word) (more : List Word) where
   unfolding valuesRead
   other-read e = rw (e, valuesRead)
 
-  pub other-found : isValueWord (word .bytes) ≡ false → valuesFound (suc count) (word ∷ more) ≡ []
+  other-found : isValueWord (word .bytes) ≡ false → valuesFound (suc count) (word ∷ more) ≡ []
   unfolding valuesFound
   other-found e = rw (e, valuesFound)
 

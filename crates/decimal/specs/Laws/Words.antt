@@ -24,7 +24,7 @@ within-word byte e = neither (isNewline byte) (isBlank byte) e
     neither true b h = absurd (false≢true (sym h))
     neither false b h = (refl, h)
 
-pub other-blank : (byte : ℕ) → isSeparator byte ≡ true → isNewline byte ≡ false → isBlank byte ≡ true
+other-blank : (byte : ℕ) → isSeparator byte ≡ true → isNewline byte ≡ false → isBlank byte ≡ true
 unfolding isSeparator
 other-blank byte e n = rw n at e
 

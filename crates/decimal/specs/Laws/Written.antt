@@ -19,6 +19,7 @@ use Rattle.decimal.specs.Words.{isNewline, isBlank, isSome, Word, words,
 use Rattle.decimal.specs.Numbers.{isSign, digitsOf, isNegative, isNumber, numberOf, isNumberFrom}
 use Rattle.decimal.specs.Table.{got, mapRead, Table, isValueWord, valuesRead, isHeading, hasMore, bodyRead, limitRead, wordsRead, textRead}
 use Rattle.decimal.specs.Text.{valueLine, tableText}
+use Rattle.decimal.specs.Inner.Numbers.{isWhole}
 use Rattle.decimal.specs.Inner.Places.{isSeparator, lineAfter, wordsFrom}
 use Rattle.decimal.specs.Laws.Words.{isInner, stops, separator-passed, no-words, word-first}
 use Rattle.decimal.specs.Laws.Values.{value-read}
@@ -59,12 +60,12 @@ some-digit = by-digits (λ number. isSome (decimal (pos number)) ≡ true) (λ n
     longer [] digit e = refl
     longer (first ∷ more) digit e = refl
 
-pub decimal-inner : (z : ℤ) → every isInner (decimal z) ≡ true
+decimal-inner : (z : ℤ) → every isInner (decimal z) ≡ true
 unfolding every isInner isSeparator isNewline isBlank
 decimal-inner (pos number) = digits-inner (decimal (pos number)) (digits-alone number)
 decimal-inner (negsuc number) = ap (every isInner) (decimal-negative number) ∙ digits-inner (decimal (pos (suc number))) (digits-alone (suc number))
 
-pub decimal-some : (z : ℤ) → isSome (decimal z) ≡ true
+decimal-some : (z : ℤ) → isSome (decimal z) ≡ true
 unfolding isSome
 decimal-some (pos number) = some-digit number
 decimal-some (negsuc number) = ap isSome (decimal-negative number)
@@ -84,17 +85,17 @@ unsigned-number (digit ∷ more) e =
     let bounds = digit-bounds digit (both (isDigit digit) (every isDigit more) e .0) in
     rw (ne-eqb digit 45 (λ q. omega arith), numberOf, readDecimal, unsigned (digit ∷ more) e)
 
-pub decimal-number : (z : ℤ) → isNumber (decimal z) ≡ true
+decimal-number : (z : ℤ) → isNumber (decimal z) ≡ true
 unfolding isNumber digitsOf isSign
 decimal-number (pos number) = ap (λ digits. isSome digits && every isDigit digits) (unsigned (decimal (pos number)) (digits-alone number)) ∙ and-both (isSome (decimal (pos number))) (every isDigit (decimal (pos number))) (some-digit number) (digits-alone number)
 decimal-number (negsuc number) = ap isNumber (decimal-negative number) ∙ and-both (isSome (decimal (pos (suc number)))) (every isDigit (decimal (pos (suc number)))) (some-digit (suc number)) (digits-alone (suc number))
 
-pub decimal-read : (z : ℤ) → numberOf (decimal z) ≡ z
+decimal-read : (z : ℤ) → numberOf (decimal z) ≡ z
 unfolding numberOf isNegative digitsOf isSign readDecimal
 decimal-read (pos number) = unsigned-number (decimal (pos number)) (digits-alone number) ∙ decimal-back (pos number)
 decimal-read (negsuc number) = ap numberOf (decimal-negative number) ∙ sym (ap readDecimal (decimal-negative number)) ∙ decimal-back (negsuc number)
 
-pub decimal-from : (low high z : ℤ) → within low high z ≡ true → isNumberFrom low high (decimal z) ≡ true
+decimal-from : (low high z : ℤ) → within low high z ≡ true → isNumberFrom low high (decimal z) ≡ true
 unfolding isNumberFrom
 decimal-from low high z e = and-both (isNumber (decimal z)) (within low high (numberOf (decimal z))) (decimal-number z) (ap (within low high) (decimal-read z) ∙ e)
 
@@ -112,11 +113,11 @@ unfolding flatMap valueLine isSeparator isNewline lineAfter
 value-first line value values = ap (wordsFrom line) (append-assoc (decimal value) (10 ∷ []) (flatMap valueLine values)) ∙ decimal-first line value 10 (flatMap valueLine values) refl
 
 -- Values of 32 bits, a line each.
-values-back : (end line : ℕ) (values : List ℤ) → every (within (negℤ (pos 2147483648)) (pos 2147483647)) values ≡ true → valuesRead end (length values) (wordsFrom line (flatMap valueLine values)) ≡ got values
+values-back : (end line : ℕ) (values : List ℤ) → every isWhole values ≡ true → valuesRead end (length values) (wordsFrom line (flatMap valueLine values)) ≡ got values
 unfolding flatMap every valuesRead isValueWord
 values-back end line [] e = ap (valuesRead end 0) (no-words line)
 values-back end line (value ∷ values) e =
-    let parts = both (within (negℤ (pos 2147483648)) (pos 2147483647) value) (every (within (negℤ (pos 2147483648)) (pos 2147483647)) values) e in
+    let parts = both (isWhole value) (every isWhole values) e in
     let word : Word = record { line = line; bytes = decimal value } in
     let more = wordsFrom (suc line) (flatMap valueLine values) in
     ap (valuesRead end (suc (length values))) (value-first line value values)
@@ -143,7 +144,7 @@ first-line n limit rest =
     ∙ decimal-first 1 (pos n) 32 (decimal (pos limit) ++ 10 ∷ rest) refl
     ∙ ap (λ more. record { line = 1; bytes = decimal (pos n) } ∷ more) (decimal-first 1 (pos limit) 10 rest refl)
 
-pub table-back : (table : Table) → 1 ≤ table .n → table .n ≤ 12 → table .limit ≤ 255 → length (table .values) ≡ 2 ^ table .n → every (within (negℤ (pos 2147483648)) (pos 2147483647)) (table .values) ≡ true → textRead (tableText table) ≡ got table
+pub table-back : (table : Table) → 1 ≤ table .n → table .n ≤ 12 → table .limit ≤ 255 → length (table .values) ≡ 2 ^ table .n → every isWhole (table .values) ≡ true → textRead (tableText table) ≡ got table
 unfolding textRead tableText
 table-back table some few small count fits =
     ap (wordsRead end) text-words

@@ -66,10 +66,10 @@ returns c =
     let l = turn n in
     let a = begun l .args in
     let t = n .before .loop-test .taken in
-    let s = seen n (c .before .line .given .1) in (
-      sym (other-checked (text l) (a .start) (a .count) (a .values .now) (l .loop .inv) t s),
-      other-written (text l) (a .start) (a .count) (a .values .now) (l .loop .inv) t s,
-    )
+    let s = seen n (c .before .line .given .1) in record {
+      answered = sym (other-checked (text l) (a .start) (a .count) (a .values .now) (l .loop .inv) t s);
+      left = other-written (text l) (a .start) (a .count) (a .values .now) (l .loop .inv) t s;
+    }
 
 enum-known-line-2 : tie.Need-enum-known-line-2 Inv-loop μ-loop
 enum-known-line-2 c = search needs
@@ -83,10 +83,10 @@ returns-2 c =
     let l = turn n in
     let a = begun l .args in
     let t = n .before .loop-test .taken in
-    let s = seen n (c .before .line2 .given .1) in (
-      sym (ended-checked (text l) (a .start) (a .count) (a .values .now) (l .loop .inv) t s),
-      ended-written (text l) (a .start) (a .count) (a .values .now) (l .loop .inv) t s,
-    )
+    let s = seen n (c .before .line2 .given .1) in record {
+      answered = sym (ended-checked (text l) (a .start) (a .count) (a .values .now) (l .loop .inv) t s);
+      left = ended-written (text l) (a .start) (a .count) (a .values .now) (l .loop .inv) t s;
+    }
 
 add-j : tie.Need-add-j Inv-loop μ-loop
 add-j c = search needs
@@ -116,10 +116,10 @@ returns-3 : tie.Need-returns-3 Inv-loop μ-loop
 returns-3 c =
     let l = c .before .before in
     let a = begun l .args in
-    let all = c .before .loop-test .left in (
-      c .check-end .ensures ∙ sym (all-checked (text l) (a .start) (a .count) (a .values .now) (l .loop .inv) all),
-      all-written (text l) (a .start) (a .count) (a .values .now) (l .loop .inv) all,
-    )
+    let all = c .before .loop-test .left in record {
+      answered = c .check-end .ensures ∙ sym (all-checked (text l) (a .start) (a .count) (a .values .now) (l .loop .inv) all);
+      left = all-written (text l) (a .start) (a .count) (a .values .now) (l .loop .inv) all;
+    }
 
 pub read-values-spec : {M : Type 1} → statement M
 read-values-spec =

@@ -7,26 +7,24 @@ ghost use Rattle.blocks.specs.Blocks.{block, first, differences};
 ghost use Rattle.blocks.specs.Classes.{same};
 ghost use Rattle.blocks.specs.Inner.Layout.{cutPlace, less};
 
-// A value less a constant, in a width that holds any such difference.
-fn difference(values: &[i32], x: usize, constant: i32) -> i64
-    requires { ⌜ x < length (now values) ⌝ }
-    ensures { λ r. ⌜ r ≡ getD (now (values .entry)) x (pos 0) -ℤ constant ⌝ }
+// A value less the one at its place in another list, in a width that holds any such difference.
+fn difference(left: &[i32], right: &[i32], x: usize) -> i64
+    requires { ⌜ (x < length (now left)) × (x < length (now right)) ⌝ }
+    ensures { λ r. ⌜ r ≡ getD (now (left .entry)) x (pos 0) -ℤ getD (now (right .entry)) x (pos 0) ⌝ }
 {
-    (values[x] as i64) - (constant as i64)
+    (left[x] as i64) - (right[x] as i64)
 }
 
-// Whether two lists of values are equal, each less a constant of its own.
-fn same_less(left: &[i32], from_left: i32, right: &[i32], from_right: i32) -> bool
-    ensures { λ r. ⌜ r ≡ same (less «from_left» (now (left .entry))) (less «from_right» (now (right .entry))) ⌝ }
+// Whether some values, each less a constant, are those of another list.
+fn same_less(left: &[i32], constant: i64, right: &[i32]) -> bool
+    ensures { λ r. ⌜ r ≡ same (less «constant» (now (left .entry))) (now (right .entry)) ⌝ }
 {
     if left.len() != right.len() {
         return false;
     }
     let mut x = 0;
     while x < left.len() {
-        let y = difference(left, x, from_left);
-        let z = difference(right, x, from_right);
-        if y != z {
+        if difference(left, right, x) != constant {
             return false;
         }
         x += 1;
@@ -38,7 +36,7 @@ fn same_less(left: &[i32], from_left: i32, right: &[i32], from_right: i32) -> bo
 pub fn same_values(left: &[i32], right: &[i32]) -> bool
     ensures { λ r. ⌜ r ≡ same (now (left .entry)) (now (right .entry)) ⌝ }
 {
-    same_less(left, 0, right, 0)
+    same_less(left, 0, right)
 }
 
 // The first of some values, or 0 where there is none.
@@ -51,11 +49,19 @@ pub fn first_value(values: &[i32]) -> i32
     values[0]
 }
 
-// Whether two blocks have equal differences.
+// Whether two blocks have equal differences. The first difference of any block is 0; where the others are equal too, the
+// blocks' values are everywhere as far apart as their first.
 pub fn same_differences(left: &[i32], right: &[i32]) -> bool
     ensures { λ r. ⌜ r ≡ same (differences (now (left .entry))) (differences (now (right .entry))) ⌝ }
 {
-    same_less(left, first_value(left), right, first_value(right))
+    if left.len() == 0 {
+        return right.len() == 0;
+    }
+    if right.len() == 0 {
+        return false;
+    }
+    let constant = difference(left, right, 0);
+    same_less(&left[1..], constant, &right[1..])
 }
 
 // Whether the halves of a block are equal value by value: a block whose halves differ branches.

@@ -26,18 +26,19 @@ fn class_extremes(
     requires { ⌜ gathered ≡ extremesOf n (now table) h g (class * 2 ^ g) ⌝ }
     ensures { λ r. ⌜ r ≡ extremesOf n (now (table .entry)) h g (class * 2 ^ g + 2 ^ g) ⌝ }
 {
-    let values = numbers::power(g);
+    let size = numbers::power(n - h);
     let step = numbers::power(n - (h + g));
-    let start = blocks::in_cut(firsts, h, class) * numbers::power(n - h);
+    let start = blocks::in_cut(firsts, h, class) * size;
+    let end = start + size;
     let from = table[start];
     let mut least = gathered.least;
     let mut greatest = gathered.greatest;
-    let mut v = 0;
-    while v < values {
-        let weight = table[start + v * step] - from;
+    let mut place = start;
+    while place < end {
+        let weight = table[place] - from;
         least = numbers::lesser_of(least, weight);
         greatest = numbers::greater_of(greatest, weight);
-        v += 1;
+        place += step;
     }
     Extremes { least, greatest }
 }

@@ -62,8 +62,9 @@ fn class_block(
     ensures { λ r. ⌜ cutRows r (now (classes .exit)) (now (firsts .exit)) ≡ blockClassed (now (table .entry)) size j (now (values .entry)) (cutRows count (now (classes .entry)) (now (firsts .entry))) ⌝ }
 {
     let class = find_class(table, size, &firsts[..count], values);
+    let known = note_first(firsts, count, j, class);
     classes[j] = class;
-    note_first(firsts, count, j, class)
+    known
 }
 
 // The halves of block j of the cut above are classed, the upper half being the part that begins in the block's middle.

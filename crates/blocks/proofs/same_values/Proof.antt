@@ -1,5 +1,5 @@
 -- `blocks::same_values` meets its contract: nothing is taken from the values. Assumes nothing.
-use mathlib.Core.Path.{_∙_, ap₂}
+use mathlib.Core.Path.{_∙_, ap}
 use borrow.Author.Needs.{needs}
 use Rattle.blocks.specs.Classes.{same}
 use Rattle.blocks.specs.Laws.Comparing.{less-nothing}
@@ -10,7 +10,7 @@ same-less-requires : tie.Need-same-less-requires
 same-less-requires c κs = search needs
 
 returns : tie.Need-returns
-returns c = c .same-less .ensures ∙ ap₂ same (less-nothing (c .before .args .left .now)) (less-nothing (c .before .args .right .now))
+returns c = let a = c .before .args in c .same-less .ensures ∙ ap (λ values. same values (a .right .now)) (less-nothing (a .left .now))
 
 pub same-values-spec : {M : Type 1} → statement M
 same-values-spec = tie.close (tie.spec same-less-requires returns)

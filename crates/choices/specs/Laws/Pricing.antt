@@ -76,18 +76,12 @@ module _ {n h g : ℕ} {table : List ℤ} {firstRow : List ℕ} (r : CellReady n
   few : n ≤ 12
   few = variables-most n table admitted
 
-  -- Cuts and groups are small.
+  -- Cuts are small.
   pub cut-small : h < 64
   cut-small = let f = few in let e = ends in omega arith
 
-  pub group-small : g < 64
-  group-small = let f = few in let e = ends in omega arith
-
   pub end-small : h + g < 64
   end-small = let f = few in let e = ends in omega arith
-
-  pub values-below : 2 ^ g ≤ 4096
-  values-below = let f = few in let e = ends in pow-mono {i = g} {j = 12} (omega arith)
 
   -- So are the blocks' heights.
   pub height-small : n - h < 64

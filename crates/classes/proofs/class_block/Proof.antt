@@ -16,14 +16,14 @@ slice-aggregate-find-class c = let a = c .before .before .before .args in sym (l
 find-class-requires : tie.Need-find-class-requires
 find-class-requires c κs = search needs
 
+note-first-requires : tie.Need-note-first-requires
+note-first-requires c κs = search needs
+
 mul-classes : tie.Need-mul-classes
 mul-classes c = search needs
 
 slice-write-classes : tie.Need-slice-write-classes
 slice-write-classes c = search needs
-
-note-first-requires : tie.Need-note-first-requires
-note-first-requires c κs = search needs
 
 same-length : tie.Need-same-length
 same-length c = search needs
@@ -43,9 +43,9 @@ class-block-spec =
     slice-reshare-prefix-find-class
     slice-aggregate-find-class
     find-class-requires
+    note-first-requires
     mul-classes
     slice-write-classes
-    note-first-requires
     same-length
     same-length-2
     returns)

@@ -2,7 +2,7 @@
 use mathlib.Core.Path.{_≡_, refl, sym, _∙_, ap}
 use mathlib.Core.Bool.{true, false≢true}
 use borrow.Author.Tests.{eqb-true, eq-eqb}
-use lib.IntN.{ℤ, pos, negsuc, negℤ, _+ℤ_, _-ℤ_, +ℤ-assoc, +ℤ-invr, +ℤ-comm, +ℤ-idr, negℤ-+ℤ, negℤ-negℤ, -ℤ-+ℤ-cancel, +ℤ-negℤ-cancel}
+use lib.IntN.{ℤ, pos, negsuc, negℤ, _+ℤ_, _-ℤ_, +ℤ-assoc, +ℤ-invr, +ℤ-comm, +ℤ-idl, +ℤ-idr, negℤ-+ℤ, negℤ-negℤ, -ℤ-+ℤ-cancel, +ℤ-negℤ-cancel}
 use Rattle.numbers.specs.Ranges.{eqZ}
 
 -- ---- equality
@@ -44,3 +44,12 @@ shift-sub a c b =
     ap (λ x. (a +ℤ c) +ℤ x) (negℤ-+ℤ b c ∙ +ℤ-comm (negℤ b) (negℤ c))
     ∙ sym (+ℤ-assoc (a +ℤ c) (negℤ c) (negℤ b))
     ∙ ap (λ x. x +ℤ negℤ b) (+ℤ-negℤ-cancel a c)
+
+-- a - (b - c) is a - b + c.
+pub sub-sub : (a b c : ℤ) → a -ℤ (b -ℤ c) ≡ a -ℤ b +ℤ c
+sub-sub a b c =
+    ap (λ x. a +ℤ x) (negℤ-+ℤ b (negℤ c) ∙ ap (λ x. negℤ b +ℤ x) (negℤ-negℤ c)) ∙ sym (+ℤ-assoc a (negℤ b) c)
+
+-- What was taken away and what was left change places.
+pub sub-exchange : (a b c : ℤ) → a -ℤ b ≡ c → a -ℤ c ≡ b
+sub-exchange a b c e = ap (λ x. a -ℤ x) (sym e) ∙ sub-sub a a b ∙ ap (λ x. x +ℤ b) (sub-self a) ∙ +ℤ-idl b

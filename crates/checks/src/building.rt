@@ -3,8 +3,8 @@ use crate::rows;
 use crate::rows::NUMBER;
 use crate::samples;
 use crate::tally::Tally;
-use diagram::Built;
 use builder::build;
+use diagram::Built;
 
 fn gives(
     n: usize,

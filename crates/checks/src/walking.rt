@@ -2,9 +2,9 @@
 use crate::rows::NUMBER;
 use crate::samples;
 use crate::tally::Tally;
+use builder::build;
 use diagram::Built;
 use diagram::Walked;
-use builder::build;
 use walker::walk;
 
 fn gives(n: usize, offset: i32, records: &[i32], x: usize, expected: i32) -> bool {

@@ -1,5 +1,6 @@
 // The listing program: reads standard input to its end and writes the listing of the table in it to standard output.
-ghost use Rattle.list.specs.Input.{Keeps};
+ghost use Rattle.stdin.specs.Input.{Keeps};
+ghost use Rattle.list.specs.Input.{keptBytes};
 ghost use Rattle.list.specs.Text.{ListsKept};
 use libc::STDERR_FILENO;
 use libc::STDOUT_FILENO;
@@ -13,7 +14,7 @@ const TEXT_ROOM: usize = 225943;
 
 // Reads to the end of the input and keeps its first bytes.
 fn read_input(buffer: &mut [u8; KEPT]) -> Input
-    ensures { λ r. ⌜ Keeps (now (buffer .exit)) r ⌝ }
+    ensures { λ r. ⌜ Keeps keptBytes (now (buffer .exit)) r ⌝ }
 {
     stdin::read_all(buffer)
 }

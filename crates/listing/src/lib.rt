@@ -33,7 +33,7 @@ fn list_values(input: &[u8], n: usize, limit: usize, values: &mut [i32], text: &
 }
 
 // The text of an input, in front. Answers its length.
-fn list_input(input: &[u8], text: &mut [u8]) -> usize
+pub fn list_input(input: &[u8], text: &mut [u8]) -> usize
     requires { ⌜ textRoom ≤ length (now text) ⌝ }
     ensures { λ r. ⌜ Writes (now (text .entry)) 0 (listing (now (input .entry))) r (now (text .exit)) ⌝ }
 {

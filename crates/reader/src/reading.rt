@@ -5,12 +5,12 @@ ghost use Rattle.numbers.specs.Answers.{mapAnswer};
 ghost use Rattle.image.specs.Inner.Bounds.{WithinBounds, IsDue};
 ghost use Rattle.image.specs.Inner.Kinds.{checked};
 ghost use Rattle.image.specs.Reader.{judged, step, stepped, reading};
+use crate::commands;
+use crate::places;
 use image::Checked;
 use image::Command;
 use image::Place;
 use image::Step;
-use crate::commands;
-use crate::places;
 
 // What is judged of a command whose operands are all there.
 fn judge(image: &[u8], place: Place, command: Command) -> Step

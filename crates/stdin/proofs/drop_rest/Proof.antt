@@ -1,5 +1,5 @@
 -- `stdin::drop_rest` is safe and ends. The measure is the number of turns that are left. Assumes nothing.
-use mathlib.Core.Path.{_≡_, sym, _∙_}
+use mathlib.Core.Path.{_≡_}
 use native.Mathlib.Omega.{arith}
 use lib.ListN.{length}
 use borrow.Author.Needs.{needs}

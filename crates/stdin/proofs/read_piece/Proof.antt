@@ -1,5 +1,4 @@
 -- `stdin::read_piece` meets its contract: a count that is not 0 is within the buffer. Assumes nothing.
-use native.Mathlib.Omega.{arith}
 use borrow.Author.Needs.{needs}
 use Rattle.stdin.specs.Inner.{PieceWithin}
 use Rattle.stdin.proofs.read_piece.Statement.{statement}

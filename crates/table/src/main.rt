@@ -1,0 +1,123 @@
+// The listing of a table in decimal text: reads standard input to its end and writes the listing to standard output. Where the text
+// is no table, standard error has the line and what was expected there, and standard output the refusal's number.
+ghost use mathlib.Core.Path.{_≡_};
+ghost use Rattle.decimal.specs.Table.{refusalNumber};
+ghost use Rattle.stdin.specs.Input.{Keeps};
+ghost use Rattle.table.specs.Listed.{ListsText};
+use decimal::Expected;
+use decimal::Parsed;
+use libc::STDERR_FILENO;
+use libc::STDOUT_FILENO;
+use stdin::Input;
+
+// One byte more than the longest text that is read.
+const KEPT: usize = 1048577;
+
+// The bytes of the longest input of the listing, and of its text.
+const INPUT_ROOM: usize = 16386;
+
+const TEXT_ROOM: usize = 225943;
+
+// What a text gives: the length of its listing, or the line on which something else was expected.
+enum Answer {
+    Listing(usize),
+    Wrong { line: usize, expected: Expected },
+}
+
+// Reads to the end of the input and keeps its first bytes.
+fn read_text(buffer: &mut [u8; KEPT]) -> Input
+    ensures { λ r. ⌜ Keeps 1048577 (now (buffer .exit)) r ⌝ }
+{
+    stdin::read_all(buffer)
+}
+
+// The listing of the table that a text gives, in front of the lent bytes.
+fn list_text(text: &[u8], out: &mut [u8; TEXT_ROOM]) -> Answer
+    ensures { λ r. ⌜ ListsText (now (text .entry)) (now (out .entry)) r (now (out .exit)) ⌝ }
+{
+    let mut input = [0u8; INPUT_ROOM];
+    match decimal::parse(text, &mut input) {
+        Parsed::Input { length } => Answer::Listing(listing::list_input(&input[..length], out)),
+        Parsed::Wrong { line, expected } => Answer::Wrong { line, expected },
+        Parsed::TooShort => Answer::Listing(0),
+    }
+}
+
+// The number of a refusal.
+fn number_of(expected: Expected) -> u64
+    ensures { λ r. ⌜ r ≡ refusalNumber expected ⌝ }
+{
+    match expected {
+        Expected::Variables => 101,
+        Expected::Limit => 102,
+        Expected::LineEnd => 103,
+        Expected::Value => 104,
+        Expected::TextEnd => 105,
+    }
+}
+
+fn print_refusal(number: u64) {
+    io::write_all(STDOUT_FILENO, b"refused ");
+    io::print_decimal(STDOUT_FILENO, number);
+    io::write_all(STDOUT_FILENO, b"\n");
+}
+
+fn print_expected(expected: Expected) {
+    match expected {
+        Expected::Variables => {
+            io::write_all(STDERR_FILENO, b"n, a whole number from 1 to 12\n");
+        }
+        Expected::Limit => {
+            io::write_all(STDERR_FILENO, b"A, a whole number from 0 to 255\n");
+        }
+        Expected::LineEnd => {
+            io::write_all(STDERR_FILENO, b"nothing more after n and A\n");
+        }
+        Expected::Value => {
+            io::write_all(
+                STDERR_FILENO,
+                b"a whole number from -2147483648 to 2147483647\n",
+            );
+        }
+        Expected::TextEnd => {
+            io::write_all(STDERR_FILENO, b"nothing more after 2^n values\n");
+        }
+    }
+}
+
+fn print_wrong(line: usize, expected: Expected) {
+    io::write_all(STDERR_FILENO, b"line ");
+    io::print_decimal(STDERR_FILENO, line as u64);
+    io::write_all(STDERR_FILENO, b": expected ");
+    print_expected(expected);
+    print_refusal(number_of(expected));
+}
+
+fn print_listing(out: &[u8]) {
+    if !io::write_all(STDOUT_FILENO, out) {
+        io::write_all(STDERR_FILENO, b"table: cannot write standard output\n");
+    }
+}
+
+// Writes what a text gives.
+fn print_answer(text: &[u8]) {
+    let mut out = [0u8; TEXT_ROOM];
+    match list_text(text, &mut out) {
+        Answer::Listing(length) => print_listing(&out[..length]),
+        Answer::Wrong { line, expected } => print_wrong(line, expected),
+    }
+}
+
+fn main() {
+    let mut buffer = [0u8; KEPT];
+    let Input::Kept(count) = read_text(&mut buffer) else {
+        io::write_all(STDERR_FILENO, b"table: cannot read standard input\n");
+        return;
+    };
+    if count == KEPT {
+        io::write_all(STDERR_FILENO, b"expected a text of at most 1048576 bytes\n");
+        print_refusal(106);
+        return;
+    }
+    print_answer(&buffer[..count]);
+}

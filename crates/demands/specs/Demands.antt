@@ -39,8 +39,8 @@ use Rattle.image.specs.Reader.{reading}
 use Rattle.image.specs.declared.Command.the-variants as commands
 use Rattle.cascade.specs.Theorems as cascades
 
--- Demand 1. Every call whose table, limits, buffers, record list, image and X document 01 admits is accepted and worked through to its answer.
--- Everything else is refused with the one number that 01's order of checks gives, and a refusal leaves each lent buffer unchanged.
+-- Demand 1. No admitted call is turned away, each gets its answer, and every other call gets one number, that of the first check that
+-- fails; what a refused call was lent stays as it was.
 
 -- An answer that goes by an order of checks: what is not admitted is refused with the number of the first check that fails, and with no other.
 pub else-refused : {A : Type 0} {checks : List Check} (answer : Answer A) → Decided answer checks → ¬ AllHold checks → (k : ℕ) × (FirstFails checks k × (answer ≡ refused k))
@@ -154,8 +154,8 @@ expand-writes image buffer card is e = images.expand-writes image buffer (cardVa
 pub expand-leaves : (image : List ℕ) (buffer : List ℤ) (k : ℕ) → expand image (length buffer) ≡ refused k → expandBuffer image buffer ≡ buffer
 expand-leaves = images.expand-leaves
 
--- Demand 2. The records are exactly the reduced diagram as 01 defines it; walking them gives the table back; and two accepted tables of one n
--- have equal records exactly when they differ by one constant. Expanding a compiled image returns its table.
+-- Demand 2. Build's records are the reduced diagram and nothing else, from which Walk gives every value; equality of records is equality of
+-- tables but for a constant; and a compiled image holds the whole table.
 
 module _ (n : ℕ) (table : List ℤ) (admitted : Accepted n table) where
   -- Every block of the table has a node, and the node stands for the block's differences.
@@ -193,8 +193,7 @@ equal-buffers-differ-by-a-constant = diagrams.equal-builds
 pub expanding-returns-the-table : (n : ℕ) (table : List ℤ) (limit : ℕ) (buffer : List ℕ) (r : Report) → compileAnswer n table limit (length buffer) ≡ accepted r → expand (compiledImage r (compileBuffer n table limit buffer)) (2 ^ n) ≡ accepted table
 expanding-returns-the-table = cascades.compiled-expands
 
--- Demand 3. For every accepted table and every address limit that some grouping fits, Compile, lent an image buffer no shorter than the image,
--- gives the image of 01's chosen grouping.
+-- Demand 3. Where some grouping fits and the buffer is long enough, Compile writes the chosen grouping's image.
 
 pub compile-gives-the-chosen-image : (n : ℕ) (table : List ℤ) → Accepted n table → (limit : ℕ) → isLimit limit ≡ true → (sizes : List ℕ) → isGrouping n sizes ≡ true → fits n table limit sizes ≡ true
     → (best : List ℕ) × BestGrouping n table limit best × ((buffer : List ℕ) → length (imageFor n table best) ≤ length buffer → (r : Report) × (compileAnswer n table limit (length buffer) ≡ accepted r) × (compiledImage r (compileBuffer n table limit buffer) ≡ imageFor n table best) × (r .planned .cells ≡ length best) × (r .planned .bits ≡ cost n table best))
@@ -205,26 +204,26 @@ module _ (n : ℕ) (table : List ℤ) (limit : ℕ) (buffer : List ℕ) (r : Rep
   abbrev image : List ℕ
   image = compiledImage r (compileBuffer n table limit buffer)
 
-  -- Whichever X below 2^n Run is given with that image, it answers f(X) and as many words read as the image has cells, one a group.
+  -- At each X of the table Run on that image gives the table's value, from one word of each cell.
   pub run-answers-the-table : (x : ℕ) → x < 2 ^ n → run image x ≡ accepted (record { value = getD table x (pos 0); words = r .planned .cells })
   run-answers-the-table = cascades.compiled-runs n table limit buffer r compiled
 
-  -- The count of memory bits that the image carries is its own cells' cost.
+  -- The total at the image's end is what its cells cost.
   pub the-bits-are-the-cells-cost : (cells : List Cell) × (reading image ≡ accepted (commands.Table n (getD table 0 (pos 0)) ∷ flatMap cellCommands cells ++ commands.End (r .planned .bits) ∷ [])) × (r .planned .cells ≡ length cells) × (r .planned .bits ≡ totalBits cells)
   the-bits-are-the-cells-cost = cascades.compiled-bits n table limit buffer r compiled
 
-  -- Every other grouping that fits costs at least as many.
+  -- No grouping that fits costs less.
   pub every-other-grouping-costs-as-many : (sizes : List ℕ) → isGrouping n sizes ≡ true → fits n table limit sizes ≡ true → r .planned .bits ≤ cost n table sizes
   every-other-grouping-costs-as-many = cascades.compiled-least n table limit buffer r compiled
 
-  -- The node count that Compile reports is the reduced diagram's records plus 1, and within the bound for every whole p and every l from 1 to n.
+  -- Compile's node count is that of the reduced diagram, with its terminal, and keeps to the bound, whatever p and l are.
   pub compile-counts-the-nodes : r .nodes ≡ length (records n table) + 1
   compile-counts-the-nodes = cascades.compiled-nodes n table limit buffer r compiled
 
   pub compile-nodes-within-the-bound : (p l : ℕ) → 1 ≤ l → l ≤ n → pos (r .nodes) ≤ℤ nodeBound n table p l
   compile-nodes-within-the-bound = cascades.compiled-bound n table limit buffer r compiled
 
--- So is the node count that Build reports for the same table.
+-- Build's is the same.
 module _ (n : ℕ) (table : List ℤ) (room : ℕ) (s : Summary) (built : buildAnswer n table room ≡ accepted s) where
   pub build-counts-the-nodes : s .nodes ≡ length (records n table) + 1
   unfolding nodeCount
@@ -236,8 +235,8 @@ module _ (n : ℕ) (table : List ℤ) (room : ℕ) (s : Summary) (built : buildA
 less-one-times : (l : ℕ) → (pos 0 -ℤ pos 1) *ℤ pos l ≡ negℤ (pos l)
 less-one-times l = ap (λ k. negℤ (pos k)) (one-mul l)
 
--- The bound is 2^(n-l) + (sum over i = 1..l of (p+1)^(2^i - 1)) + (k-1)·l, with k the number of X below 2^n - 1 where f(X+1) - f(X) is under 0
--- or over p. Where k is 0, the last part is -l.
+-- The bound as the paper's formula has it: k, the jumps, counts every adjacent pair whose step falls or exceeds p, and without a jump the
+-- last part takes l away.
 pub the-bound-without-jumps : (n : ℕ) (table : List ℤ) (p l : ℕ) → jumps n table p ≡ 0 → nodeBound n table p l ≡ pos (2 ^ (n - l) + risingKinds p l) +ℤ negℤ (pos l)
 unfolding nodeBound
 the-bound-without-jumps n table p l e = ap (λ k. pos (2 ^ (n - l) + risingKinds p l) +ℤ (pos k -ℤ pos 1) *ℤ pos l) e ∙ ap (λ z. pos (2 ^ (n - l) + risingKinds p l) +ℤ z) (less-one-times l)

@@ -4,8 +4,8 @@ pub mod plans;
 ghost use mathlib.Core.Path.{_≡_};
 ghost use mathlib.Core.List.{[], _∷_};
 ghost use Rattle.numbers.specs.Widths.{railWidth, weightWidth};
-ghost use Rattle.exports.specs.Classing.{sizesFit, Classed};
-ghost use Rattle.exports.specs.Results.{BuildGiven, WalkGiven, RunGiven, ExpandGiven};
+ghost use Rattle.results.specs.Classing.{Classed};
+ghost use Rattle.results.specs.Results.{BuildGiven, WalkGiven, RunGiven, ExpandGiven};
 
 // The rail width of so many classes.
 #[no_mangle]
@@ -23,26 +23,6 @@ pub extern "C" fn panstrait_weight_width(least: i32, greatest: i32) -> usize
     numbers::weight_width(least, greatest)
 }
 
-// Whether a table and three rows, given by their lengths, have the sizes that the classes of all cuts need.
-fn sizes_fit(n: usize, values: usize, blocks: usize, firsts: usize, cuts: usize) -> bool
-    ensures { λ r. ⌜ r ≡ sizesFit n values blocks firsts cuts ⌝ }
-{
-    if 12 < n {
-        return false;
-    }
-    if values != numbers::power(n) {
-        return false;
-    }
-    let places = numbers::power(n + 1) - 1;
-    if blocks != places {
-        return false;
-    }
-    if firsts != places {
-        return false;
-    }
-    cuts == n + 1
-}
-
 // The classes of all cuts: each block's class, each class's first block, and the class count of each cut.
 #[no_mangle]
 pub extern "C" fn panstrait_classes(
@@ -54,7 +34,7 @@ pub extern "C" fn panstrait_classes(
 ) -> bool
     ensures { λ r. ⌜ Classed n (now (table .entry)) (now (classes .entry)) (now (firsts .entry)) (now (counts .entry)) r (now (classes .exit)) (now (firsts .exit)) (now (counts .exit)) ⌝ }
 {
-    if sizes_fit(n, table.len(), classes.len(), firsts.len(), counts.len()) {
+    if results::sizes_fit(n, table.len(), classes.len(), firsts.len(), counts.len()) {
         classes::class_cuts(n, table, classes, firsts, counts);
         return true;
     }

@@ -1,29 +1,7 @@
 // Plan and Compile through C.
-ghost use mathlib.Core.Path.{_≡_};
-ghost use mathlib.Core.List.{flatMap};
-ghost use Rattle.exports.specs.Plans.{cellRow, PlanGiven, CompileGiven};
-use cascade::Cell;
+ghost use Rattle.results.specs.Plans.{PlanGiven, CompileGiven};
 use cascade::Outcome;
 use cascade::Verdict;
-
-// Five numbers for each cell: group, incoming count, outgoing count, weight width, bits.
-fn cell_rows(cells: [Cell; 12]) -> [usize; 60]
-    ensures { λ r. ⌜ r ≡ flatMap cellRow cells ⌝ }
-{
-    let mut rows = [0usize; 60];
-    let mut k = 0;
-    while k < 12 {
-        let cell = cells[k];
-        let at = 5 * k;
-        rows[at] = cell.group;
-        rows[at + 1] = cell.incoming;
-        rows[at + 2] = cell.outgoing;
-        rows[at + 3] = cell.width;
-        rows[at + 4] = cell.bits;
-        k += 1;
-    }
-    rows
-}
 
 // Plan: the sizes of the chosen grouping and the numbers of its cells, their count and their bits, or the refusal's number.
 #[no_mangle]
@@ -48,7 +26,7 @@ pub extern "C" fn panstrait_plan(
             let chosen = planned.sizes;
             *sizes = chosen;
             let list = planned.cells;
-            *cells = cell_rows(list);
+            *cells = results::cell_rows(list);
             *count = number;
             *bits = total;
             0
@@ -83,7 +61,7 @@ pub extern "C" fn panstrait_compile(
             bits: total,
         } => {
             let list = compiled.cells;
-            *cells = cell_rows(list);
+            *cells = results::cell_rows(list);
             *length = bytes;
             *nodes = all;
             *count = number;

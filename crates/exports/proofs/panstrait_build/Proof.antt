@@ -6,8 +6,8 @@ use mir.Facts.{toZ-ofZ}
 use borrow.Author.Needs.{needs}
 use Rattle.diagram.specs.Build.{built, Builds}
 use Rattle.diagram.specs.declared.Built.{Built}
-use Rattle.exports.specs.Results.{resultOf, leftBehind, BuildGiven}
-use Rattle.exports.specs.Laws.Given.{build-given}
+use Rattle.results.specs.Results.{resultOf, leftBehind, BuildGiven}
+use Rattle.results.specs.Laws.Given.{build-given}
 use Rattle.exports.proofs.panstrait_build.Statement.{statement}
 use Rattle.exports.proofs.panstrait_build.Tie as tie
 

@@ -1,7 +1,7 @@
 -- `exports::panstrait_classes` meets its contract: sizes that fit are what the classing of all cuts requires. Assumes nothing.
 use mathlib.Core.Path.{refl, sym, _∙_}
 use borrow.Author.Needs.{needs}
-use Rattle.exports.specs.Laws.Room.{sizes-room}
+use Rattle.results.specs.Laws.Room.{sizes-room}
 use Rattle.exports.proofs.panstrait_classes.Statement.{statement}
 use Rattle.exports.proofs.panstrait_classes.Tie as tie
 

@@ -3,8 +3,8 @@ use mathlib.Core.Path.{_≡_, subst}
 use borrow.Author.Needs.{needs}
 use Rattle.image.specs.Run.{expanded, Expands}
 use Rattle.image.specs.declared.Expanded.{Expanded}
-use Rattle.exports.specs.Results.{resultOf, ExpandGiven}
-use Rattle.exports.specs.Laws.Given.{expand-given}
+use Rattle.results.specs.Results.{resultOf, ExpandGiven}
+use Rattle.results.specs.Laws.Given.{expand-given}
 use Rattle.exports.proofs.panstrait_expand.Statement.{statement}
 use Rattle.exports.proofs.panstrait_expand.Tie as tie
 

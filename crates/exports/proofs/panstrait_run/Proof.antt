@@ -4,7 +4,7 @@ use mir.Facts.{toZ-ofZ}
 use borrow.Author.Needs.{needs}
 use Rattle.numbers.specs.Answers.{accepted, refused}
 use Rattle.image.specs.Run.{ran}
-use Rattle.exports.specs.Laws.Given.{run-given}
+use Rattle.results.specs.Laws.Given.{run-given}
 use Rattle.exports.proofs.panstrait_run.Statement.{statement}
 use Rattle.exports.proofs.panstrait_run.Tie as tie
 

@@ -5,7 +5,7 @@ use borrow.Author.Needs.{needs}
 use Rattle.numbers.specs.Answers.{accepted, refused}
 use Rattle.diagram.specs.Walk.{walk, walked}
 use Rattle.diagram.specs.declared.Walked.{Walked}
-use Rattle.exports.specs.Laws.Given.{walk-given}
+use Rattle.results.specs.Laws.Given.{walk-given}
 use Rattle.exports.proofs.panstrait_walk.Statement.{statement}
 use Rattle.exports.proofs.panstrait_walk.Tie as tie
 

@@ -1,6 +1,6 @@
 -- `exports::plans::panstrait_compile` meets its contract. Assumes nothing.
 use borrow.Author.Needs.{needs}
-use Rattle.exports.specs.Laws.Planned.{compile-given, compile-refused}
+use Rattle.results.specs.Laws.Planned.{compile-given, compile-refused}
 use Rattle.exports.proofs.plans.panstrait_compile.Statement.{statement}
 use Rattle.exports.proofs.plans.panstrait_compile.Tie as tie
 

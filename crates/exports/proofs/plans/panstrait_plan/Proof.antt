@@ -1,6 +1,6 @@
 -- `exports::plans::panstrait_plan` meets its contract. Assumes nothing.
 use borrow.Author.Needs.{needs}
-use Rattle.exports.specs.Laws.Planned.{plan-given, plan-refused}
+use Rattle.results.specs.Laws.Planned.{plan-given, plan-refused}
 use Rattle.exports.proofs.plans.panstrait_plan.Statement.{statement}
 use Rattle.exports.proofs.plans.panstrait_plan.Tie as tie
 

@@ -7,7 +7,7 @@ use lib.IntN.{ℤ}
 use Rattle.cascade.specs.Plan.{plan, planAnswer, sizeArray, cellArray}
 use Rattle.cascade.specs.Compile.{compileAnswer, compileCells, compileBuffer}
 use Rattle.cascade.specs.declared.Cell.{Cell}
-use Rattle.exports.specs.Results.{resultOf, leftBehind}
+use Rattle.results.specs.Results.{resultOf, leftBehind}
 
 -- The numbers of a cell: group, incoming count, outgoing count, weight width, bits.
 unfoldable pub cellRow : Cell → List ℕ

@@ -1,4 +1,4 @@
--- `exports::plans::cell_rows` meets its contract. The loop's invariant: the rows of the cells so far. Assumes nothing.
+-- `results::cell_rows` meets its contract. The loop's invariant: the rows of the cells so far. Assumes nothing.
 use Prim.Native.Nat.{_-_}
 use mathlib.Core.Path.{_≡_}
 use native.Mathlib.Omega.{arith}
@@ -6,9 +6,9 @@ use lib.ListN.{length}
 use mir.Facts.{fits-of-lt}
 use Rattle.numbers.specs.Lists.{padded}
 use Rattle.cascade.specs.Plan.{noCell}
-use Rattle.exports.specs.Laws.Rows.{RowsTo, no-rows, row-more, all-rows}
-use Rattle.exports.proofs.plans.cell_rows.Statement.{statement}
-use Rattle.exports.proofs.plans.cell_rows.Tie as tie
+use Rattle.results.specs.Laws.Rows.{RowsTo, no-rows, row-more, all-rows}
+use Rattle.results.proofs.cell_rows.Statement.{statement}
+use Rattle.results.proofs.cell_rows.Tie as tie
 
 abbrev Inv-loop : tie.InvT-loop
 Inv-loop cells rows₀ k₀ rows k = RowsTo cells k rows

@@ -11,7 +11,7 @@ use Rattle.cascade.specs.declared.Compiled.{Compiled}
 use Rattle.cascade.specs.declared.Outcome.the-variants.{Image, Refused as NoImage}
 use Rattle.cascade.specs.declared.Planned.{Planned}
 use Rattle.cascade.specs.declared.Verdict.the-variants.{Grouping, Refused}
-use Rattle.exports.specs.Plans.{cellRow, PlanGiven, CompileGiven}
+use Rattle.results.specs.Plans.{cellRow, PlanGiven, CompileGiven}
 
 module _ (n : ℕ) (table : List ℤ) (limit : ℕ) (sizes cells : List ℕ) (count bits : ℕ) (p : Planned) (plans : Plans n table limit p) where
   -- A grouping comes back.

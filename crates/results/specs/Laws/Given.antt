@@ -10,7 +10,7 @@ use Rattle.diagram.specs.Walk.{walk}
 use Rattle.diagram.specs.declared.Built.{Built}
 use Rattle.image.specs.Run.{Result, run, expand, expanded, Expands}
 use Rattle.image.specs.declared.Expanded.{Expanded}
-use Rattle.exports.specs.Results.{resultOf, leftBehind, BuildGiven, WalkGiven, RunGiven, ExpandGiven}
+use Rattle.results.specs.Results.{resultOf, leftBehind, BuildGiven, WalkGiven, RunGiven, ExpandGiven}
 
 pub build-given : (n : ℕ) (table nodes : List ℤ) (count : ℕ) (offset : ℤ) (r : Built) (nodes′ : List ℤ) → Builds n table nodes r nodes′ → BuildGiven n table nodes count offset (resultOf (built r)) nodes′ (leftBehind (built r) (λ s. s .nodes) count) (leftBehind (built r) (λ s. s .tableOffset) offset)
 build-given n table nodes count offset r nodes′ builds =

@@ -1,14 +1,6 @@
-// A table as people write it, in decimal text: from the bytes of the text to the bytes of the listing's input.
-mod headings;
+// A table as people write it, in decimal text: what a text gives, its words and their numbers.
 mod numerals;
-mod values;
-mod words;
-
-ghost use Rattle.decimal.specs.Table.{Reads};
-ghost use Rattle.decimal.specs.Inner.Values.{bodyAt, Answers, BodyReady};
-
-// The bytes of a buffer that holds every input.
-const INPUT_ROOM: usize = 16386;
+pub mod words;
 
 // What was expected where a text goes wrong.
 pub enum Expected {
@@ -33,87 +25,38 @@ pub enum Parsed {
 }
 
 // A place in a text, and its line.
-struct Place {
-    at: usize,
-    line: usize,
+pub struct Place {
+    pub at: usize,
+    pub line: usize,
 }
 
 // What digits give: their number up to 2^31.
-enum Digits {
+pub enum Digits {
     Small(usize),
     NotSmall,
 }
 
 // What a word gives: its number of 32 bits.
-enum Number {
+pub enum Number {
     Whole(i32),
     NotWhole,
 }
 
 // What comes next in a text: a number of 32 bits, with the place behind it, any other word, or nothing; each with its line.
-enum Item {
+pub enum Item {
     Valued { number: i32, line: usize, at: usize },
     Other { line: usize },
     Ended { line: usize },
 }
 
 // A number in its range on the first line, with the place behind it.
-enum Heading {
+pub enum Heading {
     Found { number: usize, at: usize },
     Missing,
 }
 
 // Whether the values are all there, and nothing more.
-enum Checked {
+pub enum Checked {
     Good,
     Wrong { line: usize, expected: Expected },
-}
-
-// What follows n and the limit on the first line, from the place behind them.
-fn parse_body(text: &[u8], at: usize, n: usize, limit: usize, input: &mut [u8]) -> Parsed
-    requires { ⌜ BodyReady (now text) at n limit (now input) ⌝ }
-    ensures { λ r. ⌜ Answers (bodyAt (now (text .entry)) at n limit) (now (input .entry)) r (now (input .exit)) ⌝ }
-{
-    if headings::has_more(text, at) {
-        return Parsed::Wrong {
-            line: 1,
-            expected: Expected::LineEnd,
-        };
-    }
-    let mut row = [0i32; 4096];
-    let count = numbers::power(n);
-    match values::read_values(text, Place { at, line: 1 }, count, &mut row) {
-        Checked::Wrong { line, expected } => Parsed::Wrong { line, expected },
-        Checked::Good => {
-            values::write_input(input, n, limit, &row[..count]);
-            Parsed::Input {
-                length: 2 + 4 * count,
-            }
-        }
-    }
-}
-
-// The listing's input of the table that a text gives, written into the lent buffer where that holds every input.
-pub fn parse(text: &[u8], input: &mut [u8]) -> Parsed
-    ensures { λ r. ⌜ Reads (now (text .entry)) (now (input .entry)) r (now (input .exit)) ⌝ }
-{
-    if input.len() < INPUT_ROOM {
-        return Parsed::TooShort;
-    }
-    match headings::heading(text, 0, 1, 12) {
-        Heading::Missing => Parsed::Wrong {
-            line: 1,
-            expected: Expected::Variables,
-        },
-        Heading::Found { number: n, at } => match headings::heading(text, at, 0, 255) {
-            Heading::Missing => Parsed::Wrong {
-                line: 1,
-                expected: Expected::Limit,
-            },
-            Heading::Found {
-                number: limit,
-                at: behind,
-            } => parse_body(text, behind, n, limit, input),
-        },
-    }
 }

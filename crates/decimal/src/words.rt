@@ -32,7 +32,7 @@ fn is_separator(byte: u8) -> bool
 }
 
 // Past the blanks and newlines from a place on.
-pub(crate) fn skip(text: &[u8], place: Place) -> Place
+pub fn skip(text: &[u8], place: Place) -> Place
     requires { ⌜ PlaceIn (now text) place ⌝ }
     ensures { λ r. ⌜ r ≡ skipped (now (text .entry)) place ⌝ }
 {
@@ -66,7 +66,7 @@ fn word_end(text: &[u8], start: usize) -> usize
 }
 
 // What comes next, from a place on.
-pub(crate) fn next_item(text: &[u8], place: Place) -> Item
+pub fn next_item(text: &[u8], place: Place) -> Item
     requires { ⌜ PlaceIn (now text) place ⌝ }
     ensures { λ r. ⌜ r ≡ itemAt (now (text .entry)) place ⌝ }
 {

@@ -1,11 +1,11 @@
--- `decimal::values::write_input` meets its contract: two bytes, and behind them the values'. Assumes nothing.
+-- `parser::values::write_input` meets its contract: two bytes, and behind them the values'. Assumes nothing.
 use mathlib.Core.Path.{_∙_}
 use native.Mathlib.Omega.{arith}
 use lib.ListN.{length-set}
 use Rattle.decimal.specs.Laws.Buffers.{input-written}
 use borrow.Author.Needs.{needs}
-use Rattle.decimal.proofs.values.write_input.Statement.{statement}
-use Rattle.decimal.proofs.values.write_input.Tie as tie
+use Rattle.parser.proofs.values.write_input.Statement.{statement}
+use Rattle.parser.proofs.values.write_input.Tie as tie
 
 cast-input : tie.Need-cast-input
 cast-input c = search needs

@@ -1,18 +1,18 @@
--- `decimal::headings::heading` meets its contract, by what comes next. Assumes nothing.
+-- `parser::headings::heading` meets its contract, by what comes next. Assumes nothing.
 use mathlib.Core.Path.{_≡_, sym, _∙_, ap}
 use lib.Signed.{mag}
 use mir.Syntax.{w32}
 use mir.Val.{ofZ, toZ}
 use mir.Facts.{toZ-ofZ}
 use borrow.Author.Tests.{not-true, not-false}
 use Rattle.decimal.specs.declared.Heading.the-variants.{Found}
 use Rattle.decimal.specs.declared.Item.the-variants.{Valued}
 use Rattle.numbers.specs.Ranges.{within}
 use Rattle.decimal.specs.Inner.Items.{headingOf, headingAt}
 use Rattle.decimal.specs.Laws.Items.{heading-found, heading-other-line, heading-outside}
 use borrow.Author.Needs.{needs}
-use Rattle.decimal.proofs.headings.heading.Statement.{statement}
-use Rattle.decimal.proofs.headings.heading.Tie as tie
+use Rattle.parser.proofs.headings.heading.Statement.{statement}
+use Rattle.parser.proofs.headings.heading.Tie as tie
 
 next-item-requires : tie.Need-next-item-requires
 next-item-requires c κs = search needs

@@ -1,4 +1,4 @@
--- `decimal::values::write_values` meets its contract. The loop's invariant: the values so far are written. Assumes nothing.
+-- `parser::values::write_values` meets its contract. The loop's invariant: the values so far are written. Assumes nothing.
 use Prim.Native.Nat.{_+_, _-_, _*_, _≤_}
 use mathlib.Core.Path.{_≡_}
 use mathlib.Core.List.{flatMap}
@@ -8,10 +8,10 @@ use lib.IntN.{pos}
 use mir.Facts.{toZ-ofZ}
 use borrow.Author.Needs.{needs}
 use Rattle.operands.specs.Bytes.{signedBytes}
 use Rattle.decimal.specs.Laws.Buffers.{values-length, value-written}
 use Rattle.lines.specs.Laws.Pieces.{PiecesWritten, no-pieces, pieces-kept, piece-written, all-pieces}
-use Rattle.decimal.proofs.values.write_values.Statement.{statement}
-use Rattle.decimal.proofs.values.write_values.Tie as tie
+use Rattle.parser.proofs.values.write_values.Statement.{statement}
+use Rattle.parser.proofs.values.write_values.Tie as tie
 
 abbrev Inv-loop : tie.InvT-loop
 Inv-loop input₀ values j₀ input j = PiecesWritten signedBytes values input₀ 2 j (2 + 4 * j) input

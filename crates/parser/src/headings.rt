@@ -1,12 +1,12 @@
 // The numbers of the first line.
 ghost use mathlib.Core.Path.{_≡_};
 ghost use Rattle.decimal.specs.Table.{hasMore};
 ghost use Rattle.decimal.specs.Inner.Places.{wordsAt, PlaceIn};
 ghost use Rattle.decimal.specs.Inner.Items.{headingAt};
-use crate::Heading;
-use crate::Item;
-use crate::Place;
-use crate::words;
+use decimal::Heading;
+use decimal::Item;
+use decimal::Place;
+use decimal::words;
 
 // The next word, where it is a number in this range on the first line.
 pub(crate) fn heading(text: &[u8], at: usize, low: i32, high: i32) -> Heading

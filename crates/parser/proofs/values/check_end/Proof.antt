@@ -1,17 +1,17 @@
--- `decimal::values::check_end` meets its contract: past the separators there is the end or a word. Assumes nothing.
+-- `parser::values::check_end` meets its contract: past the separators there is the end or a word. Assumes nothing.
 use mathlib.Core.Path.{sym, _∙_, ap, subst}
 use Prim.Native.Nat.{_≤_, _<_}
 use lib.ListN.{length}
 use Rattle.decimal.specs.declared.Place.{Place}
 use Rattle.decimal.specs.declared.Expected.the-variants.{TextEnd}
 use Rattle.decimal.specs.declared.Checked.the-variants.{Wrong}
 use Rattle.decimal.specs.Words.{lastLine}
 use Rattle.decimal.specs.Table.{valuesRead}
 use Rattle.decimal.specs.Inner.Values.{checked}
 use Rattle.decimal.specs.Laws.Places.{skipped-none, skipped-word}
 use borrow.Author.Needs.{needs}
-use Rattle.decimal.proofs.values.check_end.Statement.{statement}
-use Rattle.decimal.proofs.values.check_end.Tie as tie
+use Rattle.parser.proofs.values.check_end.Statement.{statement}
+use Rattle.parser.proofs.values.check_end.Tie as tie
 
 skip-requires : tie.Need-skip-requires
 skip-requires c κs = search needs

@@ -1,4 +1,4 @@
--- `decimal::values::read_values` meets its contract. The loop's invariant: the values so far are found, and stand in front of the row.
+-- `parser::values::read_values` meets its contract. The loop's invariant: the values so far are found, and stand in front of the row.
 -- Assumes nothing.
 use Prim.Native.Nat.{ℕ, _-_}
 use mathlib.Core.Path.{_≡_, sym, _∙_, subst}
@@ -7,12 +7,12 @@ use mathlib.Core.List.{List}
 use lib.ListN.{length}
 use mir.Syntax.{w32}
 use mir.Val.{ofZ, toZ}
 use Rattle.decimal.specs.declared.Item.{Item}
 use Rattle.decimal.specs.Laws.Items.{Seen, item-seen}
 use borrow.Author.Needs.{needs}
 use Rattle.decimal.specs.Laws.Values.{ValuesSoFar, no-values, values-kept, all-checked, all-written, next-value, other-checked, other-written, ended-checked, ended-written}
-use Rattle.decimal.proofs.values.read_values.Statement.{statement}
-use Rattle.decimal.proofs.values.read_values.Tie as tie
+use Rattle.parser.proofs.values.read_values.Statement.{statement}
+use Rattle.parser.proofs.values.read_values.Tie as tie
 
 abbrev Inv-loop : tie.InvT-loop
 Inv-loop text count values₀ place₀ j₀ values place j = ValuesSoFar text place₀ count values₀ place j values

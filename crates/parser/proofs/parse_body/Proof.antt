@@ -1,4 +1,4 @@
--- `decimal::parse_body` meets its contract: nothing more on the first line, then the values, then their bytes. Assumes nothing.
+-- `parser::parse_body` meets its contract: nothing more on the first line, then the values, then their bytes. Assumes nothing.
 use Prim.Native.Nat.{ℕ, _≤_}
 use mathlib.Core.Path.{_≡_, sym, _∙_, ap}
 use mathlib.Core.Bool.{false}
@@ -8,18 +8,18 @@ use lib.ListN.{length, take, replicate, length-replicate}
 use lib.Pow.{pow-mono}
 use lib.IntN.{ℤ, pos}
 use Rattle.numbers.specs.Ranges.{mostVariables}
 use Rattle.decimal.specs.Words.{Word, lastLine}
 use Rattle.decimal.specs.Table.{Read, got, wrong, Table, hasMore, valuesRead, bodyRead, inputRoom}
 use Rattle.decimal.specs.declared.Checked.the-variants.{Good, Wrong as NotGood}
 use Rattle.decimal.specs.declared.Expected.the-variants.{LineEnd}
 use Rattle.decimal.specs.Inner.Places.{wordsAt}
 use Rattle.decimal.specs.Inner.Values.{checked, valuesFound}
 use Rattle.decimal.specs.Laws.Values.{good-values}
 use Rattle.decimal.specs.Laws.Buffers.{front-taken}
 use Rattle.decimal.specs.Laws.Tables.{body-more, body-wrong, body-good, wrong-answers, got-answers}
 use borrow.Author.Needs.{needs}
-use Rattle.decimal.proofs.parse_body.Statement.{statement}
-use Rattle.decimal.proofs.parse_body.Tie as tie
+use Rattle.parser.proofs.parse_body.Statement.{statement}
+use Rattle.parser.proofs.parse_body.Tie as tie
 
 has-more-requires : tie.Need-has-more-requires
 has-more-requires c κs = search needs

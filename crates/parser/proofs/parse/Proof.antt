@@ -1,21 +1,21 @@
--- `decimal::parse` meets its contract: n, the limit, and what follows them. Assumes nothing.
+-- `parser::parse` meets its contract: n, the limit, and what follows them. Assumes nothing.
 use Prim.Native.Nat.{ℕ, _≤_}
 use mathlib.Core.Path.{_≡_, refl, sym, _∙_, subst}
 use mathlib.Core.List.{List}
 use native.Mathlib.Omega.{arith}
 use lib.ListN.{length}
 use Rattle.numbers.specs.Ranges.{mostVariables}
 use Rattle.decimal.specs.Words.{lastLine}
 use Rattle.decimal.specs.Table.{textRead, bodyRead, inputRoom}
 use Rattle.decimal.specs.declared.Expected.the-variants.{Variables, Limit}
 use Rattle.decimal.specs.declared.Heading.{Heading}
 use Rattle.decimal.specs.Inner.Places.{wordsAt}
 use Rattle.decimal.specs.Laws.Places.{start-place}
 use Rattle.decimal.specs.Laws.Items.{HeadingFound, HeadingSeen, heading-seen}
 use Rattle.decimal.specs.Laws.Tables.{no-variables, variables-first, no-limit, limit-second, wrong-answers, reads-short, reads-enough}
 use borrow.Author.Needs.{needs}
-use Rattle.decimal.proofs.parse.Statement.{statement}
-use Rattle.decimal.proofs.parse.Tie as tie
+use Rattle.parser.proofs.parse.Statement.{statement}
+use Rattle.parser.proofs.parse.Tie as tie
 
 returns : tie.Need-returns
 returns c = let a = c .before .before .before .args in reads-short (a .text .now) (a .input .now) (c .if1 .taken)

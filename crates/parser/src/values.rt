@@ -5,14 +5,14 @@ ghost use Prim.Native.Nat.{_+_, _*_, _≤_};
 ghost use lib.ListN.{length};
 ghost use Rattle.numbers.specs.Inner.Rows.{overwritten};
 ghost use Rattle.operands.specs.Bytes.{signedBytes};
 ghost use Rattle.decimal.specs.Table.{inputOf};
 ghost use Rattle.decimal.specs.Inner.Places.{PlaceIn};
 ghost use Rattle.decimal.specs.Inner.Values.{valuesAt, checked, ReadsValues, InputReady};
-use crate::Checked;
-use crate::Expected;
-use crate::Item;
-use crate::Place;
-use crate::words;
+use decimal::Checked;
+use decimal::Expected;
+use decimal::Item;
+use decimal::Place;
+use decimal::words;
 
 // That no word is left from a place on.
 fn check_end(text: &[u8], place: Place) -> Checked

@@ -1,14 +1,14 @@
--- `decimal::headings::has_more` meets its contract: past the separators there is the end or a word. Assumes nothing.
+-- `parser::headings::has_more` meets its contract: past the separators there is the end or a word. Assumes nothing.
 use mathlib.Core.Path.{sym, _∙_, ap, subst}
 use Prim.Native.Nat.{_≤_, _<_}
 use lib.ListN.{length}
 use lib.Dec.{eqb}
 use Rattle.decimal.specs.Table.{hasMore}
 use Rattle.decimal.specs.declared.Place.{Place}
 use Rattle.decimal.specs.Laws.Places.{skipped-none, skipped-word}
 use borrow.Author.Needs.{needs}
-use Rattle.decimal.proofs.headings.has_more.Statement.{statement}
-use Rattle.decimal.proofs.headings.has_more.Tie as tie
+use Rattle.parser.proofs.headings.has_more.Statement.{statement}
+use Rattle.parser.proofs.headings.has_more.Tie as tie
 
 skip-requires : tie.Need-skip-requires
 skip-requires c κs = search needs

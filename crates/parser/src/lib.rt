@@ -1,0 +1,63 @@
+// From the bytes of a table in decimal text to the bytes of the listing's input.
+mod headings;
+mod values;
+
+ghost use Rattle.decimal.specs.Table.{Reads};
+ghost use Rattle.decimal.specs.Inner.Values.{bodyAt, Answers, BodyReady};
+use decimal::Checked;
+use decimal::Expected;
+use decimal::Heading;
+use decimal::Parsed;
+use decimal::Place;
+
+// The bytes of a buffer that holds every input.
+const INPUT_ROOM: usize = 16386;
+
+// What follows n and the limit on the first line, from the place behind them.
+fn parse_body(text: &[u8], at: usize, n: usize, limit: usize, input: &mut [u8]) -> Parsed
+    requires { ⌜ BodyReady (now text) at n limit (now input) ⌝ }
+    ensures { λ r. ⌜ Answers (bodyAt (now (text .entry)) at n limit) (now (input .entry)) r (now (input .exit)) ⌝ }
+{
+    if headings::has_more(text, at) {
+        return Parsed::Wrong {
+            line: 1,
+            expected: Expected::LineEnd,
+        };
+    }
+    let mut row = [0i32; 4096];
+    let count = numbers::power(n);
+    match values::read_values(text, Place { at, line: 1 }, count, &mut row) {
+        Checked::Wrong { line, expected } => Parsed::Wrong { line, expected },
+        Checked::Good => {
+            values::write_input(input, n, limit, &row[..count]);
+            Parsed::Input {
+                length: 2 + 4 * count,
+            }
+        }
+    }
+}
+
+// The listing's input of the table that a text gives, written into the lent buffer where that holds every input.
+pub fn parse(text: &[u8], input: &mut [u8]) -> Parsed
+    ensures { λ r. ⌜ Reads (now (text .entry)) (now (input .entry)) r (now (input .exit)) ⌝ }
+{
+    if input.len() < INPUT_ROOM {
+        return Parsed::TooShort;
+    }
+    match headings::heading(text, 0, 1, 12) {
+        Heading::Missing => Parsed::Wrong {
+            line: 1,
+            expected: Expected::Variables,
+        },
+        Heading::Found { number: n, at } => match headings::heading(text, at, 0, 255) {
+            Heading::Missing => Parsed::Wrong {
+                line: 1,
+                expected: Expected::Limit,
+            },
+            Heading::Found {
+                number: limit,
+                at: behind,
+            } => parse_body(text, behind, n, limit, input),
+        },
+    }
+}

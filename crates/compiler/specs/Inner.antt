@@ -1,4 +1,2 @@
 -- What inner functions promise and hold.
-pub mod Counted
-pub mod Lengths
 pub mod Planned

@@ -1,6 +1,4 @@
 -- Laws about the definitions of this crate, which proofs cite.
 pub mod Compiles
-pub mod Counting
-pub mod Measuring
 pub mod Planned
 pub mod Ready

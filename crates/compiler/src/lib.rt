@@ -1,6 +1,4 @@
 // Compile: the image of the least-cost grouping of a table, written into a lent buffer.
-mod lengths;
-mod nodes;
 mod placing;
 
 ghost use Rattle.cascade.specs.Compile.{Compiles};

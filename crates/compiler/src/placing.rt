@@ -2,8 +2,8 @@
 ghost use mathlib.Core.Path.{_≡_};
 ghost use Rattle.writer.specs.Inner.Writing.{groups};
 ghost use Rattle.compiler.specs.Inner.Planned.{Places, notCompiled, refusalOf, PlaceReady, TableReady};
-use crate::lengths;
-use crate::nodes;
+use measures::lengths;
+use measures::nodes;
 use cascade::Cell;
 use cascade::Compiled;
 use cascade::Outcome;

@@ -27,7 +27,7 @@ use Rattle.cascade.specs.Laws.Lengths.{image-length}
 use Rattle.planner.specs.Laws.Plans.{groups-back}
 use Rattle.choices.specs.Laws.Pricing.{words-most}
 use Rattle.writer.specs.Inner.Writing.{groups, CellsPlanned}
-use Rattle.compiler.specs.Inner.Lengths.{plannedBytes, plannedLength, SmallCell, SmallCells}
+use Rattle.measures.specs.Inner.Lengths.{plannedBytes, plannedLength, SmallCell, SmallCells}
 use Rattle.compiler.specs.Inner.Planned.{PlannedAs}
 
 -- ---- planned cells

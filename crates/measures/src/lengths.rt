@@ -1,7 +1,7 @@
 // The length of an image, from its planned cells.
 ghost use mathlib.Core.Path.{_≡_};
 ghost use lib.ListN.{take};
-ghost use Rattle.compiler.specs.Inner.Lengths.{plannedBytes, plannedLength, SmallCell, SmallCells};
+ghost use Rattle.measures.specs.Inner.Lengths.{plannedBytes, plannedLength, SmallCell, SmallCells};
 use cascade::Cell;
 
 // The bytes of a cell: its command and its words.
@@ -13,7 +13,7 @@ fn cell_length(cell: Cell) -> usize
 }
 
 // The bytes of the image of the first so many cells.
-pub(crate) fn image_length(cells: [Cell; 12], count: usize) -> usize
+pub fn image_length(cells: [Cell; 12], count: usize) -> usize
     requires { ⌜ SmallCells cells count ⌝ }
     ensures { λ r. ⌜ r ≡ plannedLength (take count cells) ⌝ }
 {

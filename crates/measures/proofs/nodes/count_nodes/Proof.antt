@@ -1,10 +1,10 @@
--- `compiler::nodes::count_nodes` meets its contract. The loop's invariant: the terminal and the branching classes of the cuts so far. Assumes nothing.
+-- `measures::nodes::count_nodes` meets its contract. The loop's invariant: the terminal and the branching classes of the cuts so far. Assumes nothing.
 use Prim.Native.Nat.{_+_, _-_, _<_}
 use native.Mathlib.Omega.{arith}
 use mir.Facts.{fits-of-lt}
-use Rattle.compiler.specs.Laws.Counting.{NodesTo, terminal-alone, cut-place, cut-counted, cuts-small, one-cut, all-cuts}
-use Rattle.compiler.proofs.nodes.count_nodes.Statement.{statement}
-use Rattle.compiler.proofs.nodes.count_nodes.Tie as tie
+use Rattle.measures.specs.Laws.Counting.{NodesTo, terminal-alone, cut-place, cut-counted, cuts-small, one-cut, all-cuts}
+use Rattle.measures.proofs.nodes.count_nodes.Statement.{statement}
+use Rattle.measures.proofs.nodes.count_nodes.Tie as tie
 
 abbrev Inv-loop : tie.InvT-loop
 Inv-loop n table firsts counts nodes₀ h₀ nodes h = NodesTo n table h nodes

@@ -1,13 +1,13 @@
--- `compiler::lengths::cell_length` meets its contract. Assumes nothing.
+-- `measures::lengths::cell_length` meets its contract. Assumes nothing.
 use Prim.Native.Nat.{_+_, _*_, _%_, _^_}
 use mathlib.Core.Path.{_≡_, ap}
 use native.Mathlib.Omega.{arith}
 use mir.Facts.{fits-of-lt}
 use borrow.Author.Needs.{needs}
 use Rattle.numbers.specs.Laws.Pieces.{shifted-one}
-use Rattle.compiler.specs.Inner.Lengths.{plannedBytes}
-use Rattle.compiler.proofs.lengths.cell_length.Statement.{statement}
-use Rattle.compiler.proofs.lengths.cell_length.Tie as tie
+use Rattle.measures.specs.Inner.Lengths.{plannedBytes}
+use Rattle.measures.proofs.lengths.cell_length.Statement.{statement}
+use Rattle.measures.proofs.lengths.cell_length.Tie as tie
 
 shl-result : tie.Need-shl-result
 shl-result c = search needs

@@ -11,7 +11,7 @@ use Rattle.numbers.specs.Laws.Lists.{map-append}
 use Rattle.numbers.specs.Laws.Tallies.{sum-append}
 use Rattle.cascade.specs.Plan.{noCell}
 use Rattle.cascade.specs.declared.Cell.{Cell}
-use Rattle.compiler.specs.Inner.Lengths.{plannedBytes, plannedLength, SmallCells}
+use Rattle.measures.specs.Inner.Lengths.{plannedBytes, plannedLength, SmallCells}
 
 -- The bytes of the first k cells, and 11 around them.
 pub record MeasuredTo (cells : List Cell) (count k total : ℕ) : Type 0 where

@@ -2,7 +2,7 @@
 ghost use mathlib.Core.Path.{_≡_};
 ghost use Rattle.diagram.specs.Records.{nodeCount};
 ghost use Rattle.choices.specs.Inner.Ready.{RowsKnown};
-ghost use Rattle.compiler.specs.Inner.Counted.{branchingAt, CutCounted};
+ghost use Rattle.measures.specs.Inner.Counted.{branchingAt, CutCounted};
 
 // How many of the classes of cut h branch.
 fn count_branching(n: usize, h: usize, count: usize, table: &[i32], firsts: &[usize]) -> usize
@@ -21,7 +21,7 @@ fn count_branching(n: usize, h: usize, count: usize, table: &[i32], firsts: &[us
 }
 
 // The terminal, and a record for each branching class of each cut.
-pub(crate) fn count_nodes(n: usize, table: &[i32], firsts: &[usize], counts: &[usize]) -> usize
+pub fn count_nodes(n: usize, table: &[i32], firsts: &[usize], counts: &[usize]) -> usize
     requires { ⌜ RowsKnown n (now table) (now firsts) (now counts) ⌝ }
     ensures { λ r. ⌜ r ≡ nodeCount n (now (table .entry)) ⌝ }
 {

@@ -1,14 +1,14 @@
--- `compiler::lengths::image_length` meets its contract. The loop's invariant: the bytes of the cells so far. Assumes nothing.
+-- `measures::lengths::image_length` meets its contract. The loop's invariant: the bytes of the cells so far. Assumes nothing.
 use Prim.Native.Nat.{_+_, _-_, _<_}
 use mathlib.Core.Path.{_≡_, _∙_, ap}
 use native.Mathlib.Omega.{arith}
 use lib.ListN.{take}
 use mir.Facts.{fits-of-lt}
 use Rattle.cascade.specs.Plan.{noCell}
-use Rattle.compiler.specs.Inner.Lengths.{plannedLength}
-use Rattle.compiler.specs.Laws.Measuring.{MeasuredTo, none-measured, one-measured}
-use Rattle.compiler.proofs.lengths.image_length.Statement.{statement}
-use Rattle.compiler.proofs.lengths.image_length.Tie as tie
+use Rattle.measures.specs.Inner.Lengths.{plannedLength}
+use Rattle.measures.specs.Laws.Measuring.{MeasuredTo, none-measured, one-measured}
+use Rattle.measures.proofs.lengths.image_length.Statement.{statement}
+use Rattle.measures.proofs.lengths.image_length.Tie as tie
 
 abbrev Inv-loop : tie.InvT-loop
 Inv-loop count cells length₀ k₀ length k = MeasuredTo cells count k length

@@ -1,12 +1,12 @@
--- `compiler::nodes::count_branching` meets its contract. The loop's invariant: how many of the classes so far branch. Assumes nothing.
+-- `measures::nodes::count_branching` meets its contract. The loop's invariant: how many of the classes so far branch. Assumes nothing.
 use Prim.Native.Nat.{_-_}
 use mathlib.Core.Path.{sym, _∙_}
 use mathlib.Core.Logic.{⊎-elim}
 use native.Mathlib.Omega.{arith}
 use mir.Facts.{fits-of-lt}
-use Rattle.compiler.specs.Laws.Counting.{BranchingTo, none-branching, class-of-cut, one-branching, one-passing, all-branching, few-classes}
-use Rattle.compiler.proofs.nodes.count_branching.Statement.{statement}
-use Rattle.compiler.proofs.nodes.count_branching.Tie as tie
+use Rattle.measures.specs.Laws.Counting.{BranchingTo, none-branching, class-of-cut, one-branching, one-passing, all-branching, few-classes}
+use Rattle.measures.proofs.nodes.count_branching.Statement.{statement}
+use Rattle.measures.proofs.nodes.count_branching.Tie as tie
 
 abbrev Inv-loop : tie.InvT-loop
 Inv-loop n h count table firsts branching₀ c₀ branching c = BranchingTo n h table c branching

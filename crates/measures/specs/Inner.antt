@@ -1,0 +1,3 @@
+-- What inner functions promise and hold.
+pub mod Counted
+pub mod Lengths

@@ -1,5 +1,4 @@
 // Plan: the least-cost grouping of a table's variables within an address limit.
-mod cells;
 mod planning;
 
 ghost use Rattle.cascade.specs.Plan.{Plans};

@@ -7,7 +7,6 @@ ghost use Rattle.diagram.specs.Accepted.{Accepted};
 ghost use Rattle.cascade.specs.Plan.{Plans};
 ghost use Rattle.choices.specs.Inner.Ready.{RowsKnown, PlanRoom};
 ghost use Rattle.planner.specs.Inner.Rows.{refusedPlan, RowsRoom, RowsFilled};
-use crate::cells;
 use cascade::Cell;
 use cascade::Choice;
 use cascade::Planned;

@@ -15,8 +15,8 @@ use Rattle.cascade.specs.declared.Cell.{Cell}
 use Rattle.cascade.specs.declared.Choice.{Choice}
 use Rattle.cascade.specs.Laws.Cells.{variables-most}
 use Rattle.cascade.specs.declared.Verdict.the-variants.{Grouping}
-use Rattle.planner.specs.Inner.Listed.{sizeAt, chosenCell, chosenCells, CellChosen, ListChosen, listedPlan}
-use Rattle.planner.specs.Laws.Leading.{leads, size-is, moves}
+use Rattle.cells.specs.Inner.Listed.{sizeAt, chosenCell, chosenCells, CellChosen, ListChosen, listedPlan}
+use Rattle.cells.specs.Laws.Leading.{leads, size-is, moves}
 
 -- ---- the cells, one by one
 

@@ -1,9 +1,9 @@
--- `planner::cells::size_of` meets its contract. Assumes nothing.
+-- `cells::size_of` meets its contract. Assumes nothing.
 use mathlib.Core.Path.{sym, ap}
 use borrow.Author.Needs.{needs}
 use Rattle.cascade.specs.Inner.Choices.{sizeOf}
-use Rattle.planner.proofs.cells.size_of.Statement.{statement}
-use Rattle.planner.proofs.cells.size_of.Tie as tie
+use Rattle.cells.proofs.size_of.Statement.{statement}
+use Rattle.cells.proofs.size_of.Tie as tie
 
 enum-told : tie.Need-enum-told
 enum-told c = search needs

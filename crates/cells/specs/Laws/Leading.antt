@@ -23,7 +23,7 @@ use Rattle.cascade.specs.declared.Choice.{Choice}
 use Rattle.cascade.specs.declared.Choice.the-variants.{NoList, Costing}
 use Rattle.cascade.specs.Laws.Cells.{variables-most, class-count-most}
 use Rattle.cascade.specs.Laws.Cheapest.{Leads, choice-leads}
-use Rattle.planner.specs.Inner.Listed.{sizeAt, bitsAt, widthOfBits, BitsReady, chosenCell, CellChosen}
+use Rattle.cells.specs.Inner.Listed.{sizeAt, bitsAt, widthOfBits, BitsReady, chosenCell, CellChosen}
 
 -- The choice at a cut stands at its place in the array.
 pub array-at : (n limit : ℕ) (table : List ℤ) (h : ℕ) → h ≤ n → getD (choiceArray n table limit) h NoList ≡ tableChoice n table limit h

@@ -1,4 +1,4 @@
--- `planner::cells::list_cells` meets its contract. The loop's invariant: the cells down to cut h are listed. Assumes nothing.
+-- `cells::list_cells` meets its contract. The loop's invariant: the cells down to cut h are listed. Assumes nothing.
 use Prim.Native.Nat.{_+_, _-_, _<_}
 use mathlib.Core.Path.{_≡_, ap, subst⁻¹}
 use native.Mathlib.Omega.{arith}
@@ -8,11 +8,11 @@ use Rattle.numbers.specs.Lists.{padded}
 use Rattle.numbers.specs.Ranges.{mostVariables}
 use Rattle.cascade.specs.Plan.{noCell}
 use Rattle.cascade.specs.declared.Cell.{Cell}
-use Rattle.planner.specs.Inner.Listed.{sizeAt, chosenCell, CellChosen}
-use Rattle.planner.specs.Laws.Leading.{moves, places}
-use Rattle.planner.specs.Laws.Listed.{ListedTo, none-listed, room-listed, one-listed, plan-listed}
-use Rattle.planner.proofs.cells.list_cells.Statement.{statement}
-use Rattle.planner.proofs.cells.list_cells.Tie as tie
+use Rattle.cells.specs.Inner.Listed.{sizeAt, chosenCell, CellChosen}
+use Rattle.cells.specs.Laws.Leading.{moves, places}
+use Rattle.cells.specs.Laws.Listed.{ListedTo, none-listed, room-listed, one-listed, plan-listed}
+use Rattle.cells.proofs.list_cells.Statement.{statement}
+use Rattle.cells.proofs.list_cells.Tie as tie
 
 abbrev Inv-loop : tie.InvT-loop
 Inv-loop n counts choices bits sizes₀ cells₀ count₀ h₀ sizes cells count h = ListedTo n counts choices h count sizes cells

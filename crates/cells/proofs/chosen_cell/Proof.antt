@@ -1,4 +1,4 @@
--- `planner::cells::chosen_cell` meets its contract. Assumes nothing.
+-- `cells::chosen_cell` meets its contract. Assumes nothing.
 use Prim.Native.Nat.{_+_, _-_}
 use mathlib.Core.Path.{_≡_, _∙_, ap, ap₂}
 use native.Mathlib.Omega.{arith}
@@ -7,10 +7,10 @@ use mir.Facts.{fits-of-lt}
 use borrow.Author.Needs.{needs}
 use Rattle.cascade.specs.Inner.Choices.{costOf}
 use Rattle.cascade.specs.declared.Choice.the-variants.{NoList}
-use Rattle.planner.specs.Inner.Listed.{sizeAt, bitsAt, widthOfBits, chosenCell}
-use Rattle.planner.specs.Laws.Leading.{cost-there, places, bits-ready}
-use Rattle.planner.proofs.cells.chosen_cell.Statement.{statement}
-use Rattle.planner.proofs.cells.chosen_cell.Tie as tie
+use Rattle.cells.specs.Inner.Listed.{sizeAt, bitsAt, widthOfBits, chosenCell}
+use Rattle.cells.specs.Laws.Leading.{cost-there, places, bits-ready}
+use Rattle.cells.proofs.chosen_cell.Statement.{statement}
+use Rattle.cells.proofs.chosen_cell.Tie as tie
 
 mul-here : tie.Need-mul-here
 mul-here c = fits-of-lt (let p = places (c .before .pre) .0 in omega arith)

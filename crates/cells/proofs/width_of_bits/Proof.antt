@@ -1,4 +1,4 @@
--- `planner::cells::width_of_bits` meets its contract. Assumes nothing.
+-- `cells::width_of_bits` meets its contract. Assumes nothing.
 use Prim.Native.Nat.{_+_, _-_, _*_, _/_, _%_, _^_, _<_}
 use mathlib.Core.Path.{_≡_, _∙_, ap, ap₂}
 use native.Mathlib.Omega.{arith}
@@ -8,9 +8,9 @@ use borrow.Author.Needs.{needs}
 use Rattle.numbers.specs.Widths.{railWidth}
 use Rattle.numbers.specs.Laws.Pieces.{shifted-one}
 use Rattle.numbers.specs.Laws.Widths.{rail-width-least}
-use Rattle.planner.specs.Inner.Listed.{widthOfBits}
-use Rattle.planner.proofs.cells.width_of_bits.Statement.{statement}
-use Rattle.planner.proofs.cells.width_of_bits.Tie as tie
+use Rattle.cells.specs.Inner.Listed.{widthOfBits}
+use Rattle.cells.proofs.width_of_bits.Statement.{statement}
+use Rattle.cells.proofs.width_of_bits.Tie as tie
 
 cast-rail-width : tie.Need-cast-rail-width
 cast-rail-width c = search needs

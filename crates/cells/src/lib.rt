@@ -1,7 +1,7 @@
 // The cells that the choices lead to, from the top cut down.
 ghost use mathlib.Core.Path.{_≡_};
 ghost use Rattle.cascade.specs.Inner.Choices.{costOf, sizeOf};
-ghost use Rattle.planner.specs.Inner.Listed.{widthOfBits, BitsReady, chosenCell, chosenCells, CellChosen, ListChosen, listedPlan};
+ghost use Rattle.cells.specs.Inner.Listed.{widthOfBits, BitsReady, chosenCell, chosenCells, CellChosen, ListChosen, listedPlan};
 use cascade::Cell;
 use cascade::Choice;
 use cascade::Planned;
@@ -58,7 +58,7 @@ fn chosen_cell(n: usize, h: usize, counts: &[usize], choices: [Choice; 13]) -> C
 }
 
 // The sizes and the cells of the chosen grouping, with so many bits in all.
-pub(crate) fn list_cells(n: usize, counts: &[usize], choices: [Choice; 13], bits: usize) -> Planned
+pub fn list_cells(n: usize, counts: &[usize], choices: [Choice; 13], bits: usize) -> Planned
     requires { ⌜ ListChosen n (now counts) choices ⌝ }
     ensures { λ r. ⌜ r ≡ listedPlan (chosenCells (now (counts .entry)) choices n n 0) bits ⌝ }
 {

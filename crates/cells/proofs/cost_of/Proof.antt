@@ -1,9 +1,9 @@
--- `planner::cells::cost_of` meets its contract. Assumes nothing.
+-- `cells::cost_of` meets its contract. Assumes nothing.
 use mathlib.Core.Path.{sym, ap}
 use borrow.Author.Needs.{needs}
 use Rattle.cascade.specs.Inner.Choices.{costOf}
-use Rattle.planner.proofs.cells.cost_of.Statement.{statement}
-use Rattle.planner.proofs.cells.cost_of.Tie as tie
+use Rattle.cells.proofs.cost_of.Statement.{statement}
+use Rattle.cells.proofs.cost_of.Tie as tie
 
 enum-told : tie.Need-enum-told
 enum-told c = search needs

@@ -1,3 +1,2 @@
--- What a choice is, is defined in cascade. Inner has what inner functions promise and hold, Laws what is proved of it.
-pub mod Inner
+-- What a choice is, is defined in cascade. Laws has what is proved of the choice at each cut.
 pub mod Laws

@@ -1,17 +1,9 @@
-// What a cell costs, and the choice at each cut, from the bottom cut up.
-mod prices;
-
+// The choice at each cut, from the bottom cut up.
 ghost use mathlib.Core.Path.{_≡_};
 ghost use Prim.Native.Nat.{_+_, _^_, _<_};
 ghost use Rattle.cascade.specs.Inner.Choices.{taken, offered, costOf, tableChoice, choiceArray};
-ghost use Rattle.choices.specs.Inner.Ready.{RowsKnown, CutReady};
+ghost use Rattle.prices.specs.Inner.Ready.{RowsKnown, CutReady};
 use cascade::Choice;
-
-// The least and the greatest of the weights so far, and of 0.
-struct Extremes {
-    least: i32,
-    greatest: i32,
-}
 
 // The choice so far, unless a size costs less.
 fn cheaper(size: usize, cost: usize, so_far: Choice) -> Choice

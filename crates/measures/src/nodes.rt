@@ -1,7 +1,7 @@
 // The node count, counted from the classes' branching.
 ghost use mathlib.Core.Path.{_≡_};
 ghost use Rattle.diagram.specs.Records.{nodeCount};
-ghost use Rattle.choices.specs.Inner.Ready.{RowsKnown};
+ghost use Rattle.prices.specs.Inner.Ready.{RowsKnown};
 ghost use Rattle.measures.specs.Inner.Counted.{branchingAt, CutCounted};
 
 // How many of the classes of cut h branch.

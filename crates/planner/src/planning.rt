@@ -5,7 +5,7 @@ ghost use Rattle.numbers.specs.Ranges.{isLimit};
 ghost use Rattle.blocks.specs.Inner.Layout.{AllClassed};
 ghost use Rattle.diagram.specs.Accepted.{Accepted};
 ghost use Rattle.cascade.specs.Plan.{Plans};
-ghost use Rattle.choices.specs.Inner.Ready.{RowsKnown, PlanRoom};
+ghost use Rattle.prices.specs.Inner.Ready.{RowsKnown, PlanRoom};
 ghost use Rattle.planner.specs.Inner.Rows.{refusedPlan, RowsRoom, RowsFilled};
 use cascade::Cell;
 use cascade::Choice;

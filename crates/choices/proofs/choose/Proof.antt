@@ -7,7 +7,7 @@ use lib.ListN.{getD}
 use mir.Facts.{fits-of-lt}
 use Rattle.cascade.specs.Inner.Choices.{offered}
 use Rattle.cascade.specs.declared.Choice.the-variants.{NoList}
-use Rattle.choices.specs.Laws.Pricing.{address-ready, fits-is}
+use Rattle.prices.specs.Laws.Pricing.{address-ready, fits-is}
 use Rattle.choices.specs.Laws.Choosing.{Trying, trying-all, size-ready, tried-fitting, tried-unfitting, tried-all, cuts-small, offer-small}
 use Rattle.choices.proofs.choose.Statement.{statement}
 use Rattle.choices.proofs.choose.Tie as tie

@@ -21,7 +21,7 @@ use Rattle.cascade.specs.declared.Choice.{Choice}
 use Rattle.cascade.specs.declared.Choice.the-variants.{NoList, Costing}
 use Rattle.cascade.specs.Laws.Cells.{variables-most, cell-bits-most}
 use Rattle.cascade.specs.Laws.Cheapest.{tried-fits, tried-unfit, tried-same, choice-bottom, choice-step, choice-leads}
-use Rattle.choices.specs.Inner.Ready.{RowsKnown, CellReady, CutReady}
+use Rattle.prices.specs.Inner.Ready.{RowsKnown, CellReady, CutReady}
 
 -- ---- the sizes at a cut
 

@@ -19,7 +19,7 @@ use Rattle.cascade.specs.declared.Cell.{Cell}
 use Rattle.cascade.specs.declared.Compiled.{Compiled}
 use Rattle.cascade.specs.declared.Verdict.{Verdict}
 use Rattle.cascade.specs.declared.Verdict.the-variants.{Grouping, Refused as NoGrouping}
-use Rattle.choices.specs.Inner.Ready.{RowsKnown}
+use Rattle.prices.specs.Inner.Ready.{RowsKnown}
 use Rattle.writer.specs.Inner.Writing.{groups}
 use Rattle.cascade.specs.declared.Outcome.the-variants.{Refused}
 

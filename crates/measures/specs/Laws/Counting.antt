@@ -20,7 +20,7 @@ use Rattle.diagram.specs.Records.{branches, nodeCount}
 use Rattle.diagram.specs.Inner.Building.{ClassOfCut}
 use Rattle.diagram.specs.Laws.NodeCount.{node-count-by-classes}
 use Rattle.cascade.specs.Laws.Cells.{variables-most}
-use Rattle.choices.specs.Inner.Ready.{RowsKnown}
+use Rattle.prices.specs.Inner.Ready.{RowsKnown}
 use Rattle.measures.specs.Inner.Counted.{branchingAt, CutCounted}
 
 -- ---- one cut

@@ -33,9 +33,9 @@ use Rattle.cascade.specs.Inner.Words.{cellWord, wordBlock, WordReady}
 use Rattle.cascade.specs.Laws.Cells.{variables-most, cell-incoming, cell-outgoing, cell-address, cell-width-most}
 use Rattle.cascade.specs.Laws.Words.{sub-blocks, words-count}
 use Rattle.cascade.specs.Laws.WordReading.{outer, block-inside, outer-inside, weight-read, weight-fits}
-use Rattle.choices.specs.declared.Extremes.{Extremes}
-use Rattle.choices.specs.Inner.Extremes.{extremesOf}
-use Rattle.choices.specs.Inner.Ready.{CellReady, AddressReady}
+use Rattle.prices.specs.declared.Extremes.{Extremes}
+use Rattle.prices.specs.Inner.Extremes.{extremesOf}
+use Rattle.prices.specs.Inner.Ready.{CellReady, AddressReady}
 
 -- ---- the extremes so far
 

@@ -1,4 +1,4 @@
--- `choices::prices::cell_fits` meets its contract. Assumes nothing.
+-- `prices::cell_fits` meets its contract. Assumes nothing.
 use Prim.Native.Nat.{_+_}
 use mathlib.Core.Path.{ap}
 use native.Mathlib.Omega.{arith}
@@ -6,8 +6,8 @@ use lib.Dec.{leb}
 use mir.Facts.{fits-of-lt}
 use borrow.Author.Needs.{needs}
 use Rattle.numbers.specs.Laws.Widths.{rail-width-least}
-use Rattle.choices.proofs.prices.cell_fits.Statement.{statement}
-use Rattle.choices.proofs.prices.cell_fits.Tie as tie
+use Rattle.prices.proofs.cell_fits.Statement.{statement}
+use Rattle.prices.proofs.cell_fits.Tie as tie
 
 mul-rail-width : tie.Need-mul-rail-width
 mul-rail-width c = fits-of-lt (let s = c .before .pre .cut in omega arith)

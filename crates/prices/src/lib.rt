@@ -8,9 +8,14 @@ ghost use Rattle.blocks.specs.Classes.{classCount};
 ghost use Rattle.blocks.specs.Inner.Layout.{allCounts};
 ghost use Rattle.cascade.specs.Cascade.{cellOf};
 ghost use Rattle.cascade.specs.Inner.Choices.{cellPrice};
-ghost use Rattle.choices.specs.Inner.Ready.{CellReady, AddressReady};
-ghost use Rattle.choices.specs.Inner.Extremes.{extremesOf};
-use crate::Extremes;
+ghost use Rattle.prices.specs.Inner.Ready.{CellReady, AddressReady};
+ghost use Rattle.prices.specs.Inner.Extremes.{extremesOf};
+
+// The least and the greatest of the weights so far, and of 0.
+struct Extremes {
+    least: i32,
+    greatest: i32,
+}
 
 // The extremes of the weights so far and of those of one class more, whose words stand for the parts of its first block.
 fn class_extremes(
@@ -61,7 +66,7 @@ fn cell_width(n: usize, h: usize, g: usize, count: usize, table: &[i32], firsts:
 }
 
 // The memory bits of the cell from cut h that takes g variables.
-pub(crate) fn cell_price(
+pub fn cell_price(
     n: usize,
     h: usize,
     g: usize,
@@ -79,7 +84,7 @@ pub(crate) fn cell_price(
 }
 
 // Whether the cell from cut h that takes g variables keeps to the address limit.
-pub(crate) fn cell_fits(h: usize, g: usize, limit: usize, counts: &[usize]) -> bool
+pub fn cell_fits(h: usize, g: usize, limit: usize, counts: &[usize]) -> bool
     requires { ⌜ AddressReady (now counts) h g ⌝ }
     ensures { λ r. ⌜ r ≡ leb (railWidth (getD (now (counts .entry)) h 0) + g) limit ⌝ }
 {

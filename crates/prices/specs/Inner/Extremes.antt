@@ -6,7 +6,7 @@ use lib.IntN.{ℤ, pos}
 use Rattle.numbers.specs.Inner.Extremes.{lowest, highest}
 use Rattle.image.specs.WellFormed.{weights}
 use Rattle.cascade.specs.Cascade.{wordsOf}
-use Rattle.choices.specs.declared.Extremes.{Extremes}
+use Rattle.prices.specs.declared.Extremes.{Extremes}
 
 -- The extremes of the first k weights of the cell from cut h to cut h + g, and of 0.
 unfoldable pub extremesOf : ℕ → List ℤ → ℕ → ℕ → ℕ → Extremes

@@ -1,4 +1,4 @@
--- `choices::prices::cell_width` meets its contract. The loop's invariant: the extremes with the classes so far. Assumes nothing.
+-- `prices::cell_width` meets its contract. The loop's invariant: the extremes with the classes so far. Assumes nothing.
 use Prim.Native.Nat.{_+_, _-_, _*_, _^_, _≤_, _<_}
 use mathlib.Core.Path.{_≡_, sym, _∙_, ap, ap₂}
 use mathlib.Core.List.{[], _∷_}
@@ -12,10 +12,10 @@ use Rattle.numbers.specs.Widths.{weightWidth}
 use Rattle.blocks.specs.Classes.{classCount}
 use Rattle.cascade.specs.Cascade.{wordsOf}
 use Rattle.cascade.specs.Laws.Words.{words-count}
-use Rattle.choices.specs.Inner.Extremes.{extremesOf}
-use Rattle.choices.specs.Laws.Pricing.{extremes-none, extremes-all, classes-most}
-use Rattle.choices.proofs.prices.cell_width.Statement.{statement}
-use Rattle.choices.proofs.prices.cell_width.Tie as tie
+use Rattle.prices.specs.Inner.Extremes.{extremesOf}
+use Rattle.prices.specs.Laws.Pricing.{extremes-none, extremes-all, classes-most}
+use Rattle.prices.proofs.cell_width.Statement.{statement}
+use Rattle.prices.proofs.cell_width.Tie as tie
 
 abbrev Inv-loop : tie.InvT-loop
 Inv-loop n h g count table firsts gathered₀ class₀ gathered class = (class ≤ count) × (gathered ≡ extremesOf n table h g (class * 2 ^ g))

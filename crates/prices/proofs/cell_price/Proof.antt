@@ -1,4 +1,4 @@
--- `choices::prices::cell_price` meets its contract. Assumes nothing.
+-- `prices::cell_price` meets its contract. Assumes nothing.
 use Prim.Native.Nat.{_+_}
 use mathlib.Core.Path.{_∙_, ap, ap₂}
 use native.Mathlib.Omega.{arith}
@@ -6,9 +6,9 @@ use mir.Facts.{fits-of-lt}
 use borrow.Author.Needs.{needs}
 use Rattle.numbers.specs.Widths.{cellBits}
 use Rattle.blocks.specs.Classes.{classCount}
-use Rattle.choices.specs.Laws.Pricing.{cut-small, end-small, entering-place, leaving-place, entering, leaving, price-fits, price-is}
-use Rattle.choices.proofs.prices.cell_price.Statement.{statement}
-use Rattle.choices.proofs.prices.cell_price.Tie as tie
+use Rattle.prices.specs.Laws.Pricing.{cut-small, end-small, entering-place, leaving-place, entering, leaving, price-fits, price-is}
+use Rattle.prices.proofs.cell_price.Statement.{statement}
+use Rattle.prices.proofs.cell_price.Tie as tie
 
 mul-incoming : tie.Need-mul-incoming
 mul-incoming c = fits-of-lt (let s = cut-small (c .before .before .pre .0) in omega arith)

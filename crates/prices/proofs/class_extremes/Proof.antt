@@ -1,4 +1,4 @@
--- `choices::prices::class_extremes` meets its contract. The loop's invariant: the extremes with the words so far. Assumes nothing.
+-- `prices::class_extremes` meets its contract. The loop's invariant: the extremes with the words so far. Assumes nothing.
 use Prim.Native.Nat.{ℕ, suc, _+_, _-_, _*_, _^_, _≤_, _<_}
 use mathlib.Core.Path.{_≡_, sym, _∙_, ap, ap₂}
 use mathlib.Core.List.{List}
@@ -16,10 +16,10 @@ use Rattle.blocks.specs.Inner.Layout.{cutPlace}
 use Rattle.cascade.specs.Inner.Words.{cellWord}
 use Rattle.cascade.specs.Laws.Cells.{variables-most}
 use Rattle.cascade.specs.Laws.Words.{sub-blocks}
-use Rattle.choices.specs.Inner.Extremes.{extremesOf}
-use Rattle.choices.specs.Laws.Pricing.{cut-small, end-small, height-small, lower-small, first-place, from-inside, weight-inside, weight-at, weight-small, one-of-words, extremes-next, values-most}
-use Rattle.choices.proofs.prices.class_extremes.Statement.{statement}
-use Rattle.choices.proofs.prices.class_extremes.Tie as tie
+use Rattle.prices.specs.Inner.Extremes.{extremesOf}
+use Rattle.prices.specs.Laws.Pricing.{cut-small, end-small, height-small, lower-small, first-place, from-inside, weight-inside, weight-at, weight-small, one-of-words, extremes-next, values-most}
+use Rattle.prices.proofs.class_extremes.Statement.{statement}
+use Rattle.prices.proofs.class_extremes.Tie as tie
 
 -- At a place so many steps from the start, the extremes with as many words of the class.
 record Gathered (n h g class : ℕ) (table : List ℤ) (step start place : ℕ) (low high : ℤ) : Type 0 where

@@ -33,8 +33,8 @@ fn width_of_bits(incoming: usize, group: usize, outgoing: usize, bits: usize) ->
     requires { ⌜ BitsReady incoming group outgoing bits ⌝ }
     ensures { λ r. ⌜ r ≡ widthOfBits incoming group outgoing bits ⌝ }
 {
-    let address = numbers::rail_width(incoming as u32) + group;
-    bits / (1 << address) - numbers::rail_width(outgoing as u32)
+    let address = widths::rail_width(incoming as u32) + group;
+    bits / (1 << address) - widths::rail_width(outgoing as u32)
 }
 
 // The cell that the choice at cut h takes.

@@ -12,7 +12,7 @@ ghost use Rattle.results.specs.Results.{BuildGiven, WalkGiven, RunGiven, Expand
 pub extern "C" fn panstrait_rail_width(count: u32) -> usize
     ensures { λ r. ⌜ r ≡ railWidth count ⌝ }
 {
-    numbers::rail_width(count)
+    widths::rail_width(count)
 }
 
 // The weight width of a cell, from its least and its greatest weight.
@@ -20,7 +20,7 @@ pub extern "C" fn panstrait_rail_width(count: u32) -> usize
 pub extern "C" fn panstrait_weight_width(least: i32, greatest: i32) -> usize
     ensures { λ r. ⌜ r ≡ weightWidth (least ∷ greatest ∷ []) ⌝ }
 {
-    numbers::weight_width(least, greatest)
+    widths::weight_width(least, greatest)
 }
 
 // The classes of all cuts: each block's class, each class's first block, and the class count of each cut.

@@ -1,28 +1,8 @@
-// Ranges and bit widths, and the laws of integers, lists and powers of two that every proof cites.
+// Ranges, and the laws of integers, lists, powers of two and bit widths that every proof cites.
 ghost use mathlib.Core.Path.{_≡_};
-ghost use mathlib.Core.List.{[], _∷_};
 ghost use Prim.Native.Nat.{_^_, _<_};
 ghost use lib.Signed.{mag};
 ghost use Rattle.numbers.specs.Ranges.{isVariables, isLimit, within, lesser, greater};
-ghost use Rattle.numbers.specs.Inner.Bits.{bitLength};
-ghost use Rattle.numbers.specs.Widths.{railWidth, weightWidth};
-
-// The number of bits of a number.
-pub fn bit_length(number: u32) -> usize
-    ensures { λ r. ⌜ r ≡ bitLength number ⌝ }
-{
-    (32 - u32::leading_zeros(number)) as usize
-}
-
-// The rail width of so many classes.
-pub fn rail_width(count: u32) -> usize
-    ensures { λ r. ⌜ r ≡ railWidth count ⌝ }
-{
-    if count == 0 {
-        return 0;
-    }
-    bit_length(count - 1)
-}
 
 // n both for n and for -(n + 1).
 pub fn magnitude(weight: i32) -> u32
@@ -33,23 +13,6 @@ pub fn magnitude(weight: i32) -> u32
     } else {
         weight as u32
     }
-}
-
-// The weight width of a cell, from its least and its greatest weight.
-pub fn weight_width(least: i32, greatest: i32) -> usize
-    ensures { λ r. ⌜ r ≡ weightWidth (least ∷ greatest ∷ []) ⌝ }
-{
-    let low = magnitude(least);
-    let high = magnitude(greatest);
-    if low < high {
-        return 1 + bit_length(high);
-    }
-    if least == 0 {
-        if greatest == 0 {
-            return 0;
-        }
-    }
-    1 + bit_length(low)
 }
 
 // 2^k.

@@ -62,7 +62,7 @@ fn cell_width(n: usize, h: usize, g: usize, count: usize, table: &[i32], firsts:
         gathered = class_extremes(n, h, g, class, table, firsts, gathered);
         class += 1;
     }
-    numbers::weight_width(gathered.least, gathered.greatest)
+    widths::weight_width(gathered.least, gathered.greatest)
 }
 
 // The memory bits of the cell from cut h that takes g variables.
@@ -88,5 +88,5 @@ pub fn cell_fits(h: usize, g: usize, limit: usize, counts: &[usize]) -> bool
     requires { ⌜ AddressReady (now counts) h g ⌝ }
     ensures { λ r. ⌜ r ≡ leb (railWidth (getD (now (counts .entry)) h 0) + g) limit ⌝ }
 {
-    numbers::rail_width(counts[h] as u32) + g <= limit
+    widths::rail_width(counts[h] as u32) + g <= limit
 }

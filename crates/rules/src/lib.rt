@@ -43,7 +43,7 @@ fn cell_keeps(place: Place, group: usize, incoming: usize, outgoing: usize) -> b
             return false;
         }
     }
-    numbers::rail_width(incoming as u32) + group <= 12
+    widths::rail_width(incoming as u32) + group <= 12
 }
 
 fn word_keeps(place: Place, class: usize, weight: i32) -> bool
@@ -84,7 +84,7 @@ pub fn width_is_least(place: Place) -> bool
     if 0 < place.words {
         return true;
     }
-    place.width == numbers::weight_width(place.least, place.greatest)
+    place.width == widths::weight_width(place.least, place.greatest)
 }
 
 pub fn is_end(command: Command) -> bool

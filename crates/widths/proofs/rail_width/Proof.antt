@@ -1,13 +1,13 @@
--- `numbers::rail_width` meets its contract: the length of the count less one. Assumes nothing.
+-- `widths::rail_width` meets its contract: the length of the count less one. Assumes nothing.
 use Prim.Native.Nat.{suc, _-_}
 use mathlib.Core.Path.{_≡_, refl, sym, _∙_, ap}
 use native.Mathlib.Omega.{arith}
 use borrow.Author.Needs.{needs}
 use Rattle.numbers.specs.Lists.{leastFrom, least}
 use Rattle.numbers.specs.Widths.{railWidth}
 use Rattle.numbers.specs.Laws.BitLength.{rail-width-bits}
-use Rattle.numbers.proofs.rail_width.Statement.{statement}
-use Rattle.numbers.proofs.rail_width.Tie as tie
+use Rattle.widths.proofs.rail_width.Statement.{statement}
+use Rattle.widths.proofs.rail_width.Tie as tie
 
 no-class : railWidth 0 ≡ 0
 unfolding railWidth least leastFrom

@@ -1,9 +1,9 @@
--- `numbers::bit_length` meets its contract: what the leading zeros leave of 32 digits. Assumes nothing.
+-- `widths::bit_length` meets its contract: what the leading zeros leave of 32 digits. Assumes nothing.
 use lib.Count.{leading-le}
 use borrow.Author.Needs.{needs}
 use Rattle.numbers.specs.Laws.BitLength.{bit-length-zeros}
-use Rattle.numbers.proofs.bit_length.Statement.{statement}
-use Rattle.numbers.proofs.bit_length.Tie as tie
+use Rattle.widths.proofs.bit_length.Statement.{statement}
+use Rattle.widths.proofs.bit_length.Tie as tie
 
 sub-result : tie.Need-sub-result
 sub-result c = leading-le 32 (c .args .number)

@@ -1,4 +1,4 @@
--- `numbers::weight_width` meets its contract: one bit more than the greater magnitude has, or none where both weights are 0. Assumes nothing.
+-- `widths::weight_width` meets its contract: one bit more than the greater magnitude has, or none where both weights are 0. Assumes nothing.
 use Prim.Native.Nat.{ℕ, _+_, _^_, _≤_, _<_}
 use mathlib.Core.Path.{_≡_, refl, sym, _∙_, ap}
 use mathlib.Core.Logic.{⊎-elim}
@@ -12,14 +12,14 @@ use mir.Syntax.{w32}
 use mir.Val.{SFits, ofZ}
 use mir.Facts.{fits-of-lt, sfits-lit, toZ-ofZ}
 use borrow.Author.Needs.{needs}
 use Rattle.numbers.specs.Lists.{every}
 use Rattle.numbers.specs.Ranges.{eqZ}
 use Rattle.numbers.specs.Inner.Bits.{bitLength}
 use Rattle.numbers.specs.Laws.BitLength.{bit-length-least, pair-width}
 use Rattle.numbers.specs.Laws.Machine.{same-bits}
 use Rattle.numbers.specs.Laws.Widths.{weight-width-zero}
-use Rattle.numbers.proofs.weight_width.Statement.{statement}
-use Rattle.numbers.proofs.weight_width.Tie as tie
+use Rattle.widths.proofs.weight_width.Statement.{statement}
+use Rattle.widths.proofs.weight_width.Tie as tie
 
 magnitude-requires : tie.Need-magnitude-requires
 magnitude-requires c κs = search needs

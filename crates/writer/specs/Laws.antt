@@ -1,5 +1,4 @@
 -- Laws about the definitions of this crate, which proofs cite.
 pub mod Cells
-pub mod Commands
 pub mod Images
 pub mod Words

@@ -1,5 +1,4 @@
 // The image of a table's planned cells, written into a lent buffer.
-mod commands;
 
 ghost use mathlib.Core.Path.{_≡_};
 ghost use Prim.Native.Nat.{_+_, _*_, _^_, _≤_};

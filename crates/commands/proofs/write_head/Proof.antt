@@ -1,11 +1,11 @@
--- `writer::commands::write_head` meets its contract. Assumes nothing.
+-- `commands::write_head` meets its contract. Assumes nothing.
 use mathlib.Core.Path.{_≡_, _∙_}
 use native.Mathlib.Omega.{arith}
 use lib.ListN.{length, set, length-set}
 use borrow.Author.Needs.{needs}
-use Rattle.writer.specs.Laws.Commands.{head-written}
-use Rattle.writer.proofs.commands.write_head.Statement.{statement}
-use Rattle.writer.proofs.commands.write_head.Tie as tie
+use Rattle.commands.specs.Laws.Commands.{head-written}
+use Rattle.commands.proofs.write_head.Statement.{statement}
+use Rattle.commands.proofs.write_head.Tie as tie
 
 slice-write-buffer : tie.Need-slice-write-buffer
 slice-write-buffer c = search needs

@@ -1,11 +1,11 @@
--- `writer::commands::write_end` meets its contract. Assumes nothing.
+-- `commands::write_end` meets its contract. Assumes nothing.
 use mathlib.Core.Path.{_∙_}
 use native.Mathlib.Omega.{arith}
 use lib.ListN.{length-set}
 use borrow.Author.Needs.{needs}
-use Rattle.writer.specs.Laws.Commands.{end-written}
-use Rattle.writer.proofs.commands.write_end.Statement.{statement}
-use Rattle.writer.proofs.commands.write_end.Tie as tie
+use Rattle.commands.specs.Laws.Commands.{end-written}
+use Rattle.commands.proofs.write_end.Statement.{statement}
+use Rattle.commands.proofs.write_end.Tie as tie
 
 slice-write-buffer : tie.Need-slice-write-buffer
 slice-write-buffer c = search needs

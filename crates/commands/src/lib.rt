@@ -8,7 +8,7 @@ ghost use Rattle.image.specs.declared.Command.the-variants as commands;
 use operands::writing;
 
 // The table command, in front.
-pub(crate) fn write_table(buffer: &mut [u8], n: usize, offset: i32)
+pub fn write_table(buffer: &mut [u8], n: usize, offset: i32)
     requires { ⌜ (6 ≤ length (now buffer)) × (n < 256) ⌝ }
     ensures { λ _. ⌜ now (buffer .exit) ≡ overwritten (now (buffer .entry)) 0 (commandBytes (commands.Table n offset)) ⌝ }
 {
@@ -18,7 +18,7 @@ pub(crate) fn write_table(buffer: &mut [u8], n: usize, offset: i32)
 }
 
 // A cell's own command, in front.
-pub(crate) fn write_head(
+pub fn write_head(
     buffer: &mut [u8],
     group: usize,
     incoming: usize,
@@ -36,7 +36,7 @@ pub(crate) fn write_head(
 }
 
 // A word at a place.
-pub(crate) fn write_word(buffer: &mut [u8], at: usize, class: usize, weight: i32)
+pub fn write_word(buffer: &mut [u8], at: usize, class: usize, weight: i32)
     requires { ⌜ at + 7 ≤ length (now buffer) ⌝ }
     ensures { λ _. ⌜ now (buffer .exit) ≡ overwritten (now (buffer .entry)) at (commandBytes (commands.Word class weight)) ⌝ }
 {
@@ -46,7 +46,7 @@ pub(crate) fn write_word(buffer: &mut [u8], at: usize, class: usize, weight: i32
 }
 
 // The last command, at a place.
-pub(crate) fn write_end(buffer: &mut [u8], at: usize, bits: usize)
+pub fn write_end(buffer: &mut [u8], at: usize, bits: usize)
     requires { ⌜ at + 5 ≤ length (now buffer) ⌝ }
     ensures { λ _. ⌜ now (buffer .exit) ≡ overwritten (now (buffer .entry)) at (commandBytes (commands.End bits)) ⌝ }
 {

@@ -1,12 +1,12 @@
--- `writer::commands::write_table` meets its contract. Assumes nothing.
+-- `commands::write_table` meets its contract. Assumes nothing.
 use mathlib.Core.Path.{_≡_, _∙_}
 use native.Mathlib.Omega.{arith}
 use lib.ListN.{length, set, length-set}
 use mir.Facts.{toZ-ofZ}
 use borrow.Author.Needs.{needs}
-use Rattle.writer.specs.Laws.Commands.{table-written}
-use Rattle.writer.proofs.commands.write_table.Statement.{statement}
-use Rattle.writer.proofs.commands.write_table.Tie as tie
+use Rattle.commands.specs.Laws.Commands.{table-written}
+use Rattle.commands.proofs.write_table.Statement.{statement}
+use Rattle.commands.proofs.write_table.Tie as tie
 
 slice-write-buffer : tie.Need-slice-write-buffer
 slice-write-buffer c = search needs

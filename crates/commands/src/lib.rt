@@ -18,13 +18,7 @@ pub fn write_table(buffer: &mut [u8], n: usize, offset: i32)
 }
 
 // A cell's own command, in front.
-pub fn write_head(
-    buffer: &mut [u8],
-    group: usize,
-    incoming: usize,
-    outgoing: usize,
-    width: usize,
-)
+pub fn write_head(buffer: &mut [u8], group: usize, incoming: usize, outgoing: usize, width: usize)
     requires { ⌜ (7 ≤ length (now buffer)) × ((group < 256) × (width < 256)) ⌝ }
     ensures { λ _. ⌜ now (buffer .exit) ≡ overwritten (now (buffer .entry)) 0 (commandBytes (commands.Cell group incoming outgoing width)) ⌝ }
 {

@@ -2,12 +2,12 @@
 ghost use mathlib.Core.Path.{_≡_};
 ghost use Rattle.writer.specs.Inner.Writing.{groups};
 ghost use Rattle.compiler.specs.Inner.Planned.{Places, notCompiled, refusalOf, PlaceReady, TableReady};
-use measures::lengths;
-use measures::nodes;
 use cascade::Cell;
 use cascade::Compiled;
 use cascade::Outcome;
 use cascade::Verdict;
+use measures::lengths;
+use measures::nodes;
 
 // The number of a refusal beside cells of 0.
 pub(crate) fn not_compiled(number: u8) -> Compiled

@@ -1,7 +1,7 @@
 -- Walk's check, test by test: ranges of numbers, a child, a record, all records from one on.
 use Prim.Native.Nat.{ℕ, zero, suc, _+_, _-_, _*_, _≤_, _<_}
 use mathlib.Core.Path.{_≡_, refl, sym, _∙_, ap}
-use mathlib.Core.Bool.{Bool, true, false, true≢false, false≢true}
+use mathlib.Core.Bool.{Bool, true, false, _&&_, true≢false, false≢true}
 use mathlib.Core.List.{List}
 use native.Mathlib.Numerals.{add-one}
 use native.Mathlib.Omega.{arith}
@@ -16,7 +16,7 @@ use mir.Facts.{fits-natAbs, sfits-lit}
 use borrow.Author.Tests.{le-leb, lt-leb, ltb-true, ltb-false, leb-true, eq-eqb, ne-eqb}
 use Rattle.numbers.specs.Lists.{numbersFrom, every}
 use Rattle.numbers.specs.Ranges.{mostVariables, isVariables, within, eqZ, isWeight}
-use Rattle.numbers.specs.Laws.Bools.{yes-or-no, both}
+use Rattle.numbers.specs.Laws.Bools.{yes-or-no, both, and-both}
 use Rattle.numbers.specs.Laws.Integers.{eqZ-true, eqZ-refl}
 use Rattle.numbers.specs.Laws.Machine.{same-bits}
 use Rattle.diagram.specs.Records.{recordSize}
@@ -156,3 +156,37 @@ module _ {A : Type 0} (test : A → Bool) (l : List A) (x : ℕ) where
   pub nothing-left : length l ≤ x → every test (drop x l) ≡ true
   unfolding every
   nothing-left h = rw (drop-of-length-le l h)
+
+-- ---- the parts of a record's check
+
+-- A record that fits: its variable, its children and its weight.
+pub record RecordParts (n : ℕ) (list : List ℤ) (k : ℕ) : Type 0 where
+  pub variable : within (pos 0) (pos (n - 1)) (variableAt list k) ≡ true
+  pub low : childFits list k (lowAt list k) ≡ true
+  pub high : childFits list k (highAt list k) ≡ true
+  pub weight : isWeight (weightAt list k) ≡ true
+
+module _ (n : ℕ) (list : List ℤ) (k : ℕ) where
+  abbrev variable-fits : Bool
+  variable-fits = within (pos 0) (pos (n - 1)) (variableAt list k)
+
+  abbrev low-fits : Bool
+  low-fits = childFits list k (lowAt list k)
+
+  abbrev high-fits : Bool
+  high-fits = childFits list k (highAt list k)
+
+  pub fits-by-parts : RecordParts n list k → recordFits n list k ≡ true
+  unfolding recordFits
+  fits-by-parts p =
+      and-both (variable-fits && low-fits && high-fits) (isWeight (weightAt list k))
+      (and-both (variable-fits && low-fits) high-fits
+      (and-both variable-fits low-fits (p .variable) (p .low)) (p .high)) (p .weight)
+
+  pub parts-of-record : recordFits n list k ≡ true → RecordParts n list k
+  unfolding recordFits
+  parts-of-record fits =
+      let all = both (variable-fits && low-fits && high-fits) (isWeight (weightAt list k)) fits in
+      let children = both (variable-fits && low-fits) high-fits (all .0) in
+      let front = both variable-fits low-fits (children .0) in
+      record { variable = front .0; low = front .1; high = children .1; weight = all .1 }

@@ -9,7 +9,7 @@ use lib.Dec.{leb, eqb}
 use lib.IntN.{ℤ, pos, natAbs, _+ℤ_, +ℤ-idl, +ℤ-idr, +ℤ-assoc}
 use lib.Signed.{mag}
 use Rattle.numbers.specs.Lists.{numbersFrom, every}
-use Rattle.numbers.specs.Ranges.{within, isValue, isWeight, eqZ}
+use Rattle.numbers.specs.Ranges.{isValue, eqZ}
 use Rattle.numbers.specs.Laws.Bools.{yes-or-no, both}
 use Rattle.numbers.specs.Laws.Bounds.{value-mag, weight-mag}
 use Rattle.numbers.specs.Laws.Integers.{eqZ-refl}
@@ -17,10 +17,10 @@ use Rattle.numbers.specs.Laws.Machine.{mag-add}
 use Rattle.numbers.specs.Laws.Lists.{length-range, getD-range, every-at}
 use Rattle.diagram.specs.Records.{recordSize}
 use Rattle.diagram.specs.Build.{nodeRoom}
-use Rattle.diagram.specs.Walk.{variableAt, lowAt, highAt, weightAt, childFits, recordFits, recordCount, listFits, bitSet, pathWeight, walkValue}
+use Rattle.diagram.specs.Walk.{variableAt, lowAt, highAt, weightAt, recordFits, recordCount, listFits, bitSet, pathWeight, walkValue}
 use Rattle.diagram.specs.Inner.Edges.{Walkable, edgeAt}
 use Rattle.diagram.specs.declared.Edge.{Edge}
-use Rattle.diagram.specs.Laws.Checks.{unequal, child-node}
+use Rattle.diagram.specs.Laws.Checks.{unequal, child-node, parts-of-record}
 use Rattle.diagram.specs.Laws.Paths.{path-terminal}
 
 -- ---- which edge is taken
@@ -96,29 +96,13 @@ record-passes n list h k one l =
     ap (recordFits n list) (sym (getD-range 1 (recordCount list) (k - 1) 0 (omega arith) ∙ (let e : 1 + (k - 1) ≡ k = omega arith in e)))
     ∙ every-at (recordFits n list) (numbersFrom 1 (recordCount list)) 0 (both (eqb (length list % recordSize) 0 && leb (length list) (nodeRoom n)) (every (recordFits n list) (numbersFrom 1 (recordCount list))) h .1) (k - 1) (rw length-range (omega arith))
 
--- What a record's check says of its edges.
-record EdgesFit (list : List ℤ) (k : ℕ) : Type 0 where
-  low : childFits list k (lowAt list k) ≡ true
-  high : childFits list k (highAt list k) ≡ true
-  weight : isWeight (weightAt list k) ≡ true
-
-edges-fit : (n : ℕ) (list : List ℤ) (k : ℕ) → recordFits n list k ≡ true → EdgesFit list k
-unfolding recordFits
-edges-fit n list k h =
-    let variable = within (pos 0) (pos (n - 1)) (variableAt list k) in
-    let low = childFits list k (lowAt list k) in
-    let high = childFits list k (highAt list k) in
-    let all = both (variable && low && high) (isWeight (weightAt list k)) h in
-    let three = both (variable && low) high (all .0) in
-    record { low = both variable low (three .0) .1; high = three .1; weight = all .1 }
-
 -- And every node may be walked from.
 pub passes-walkable : (n : ℕ) (list : List ℤ) → listFits n list ≡ true → (k : ℕ) → k ≤ recordCount list → Walkable list k
 passes-walkable n list h k l = record {
   known = l;
-  low = λ one. edges-fit n list k (record-passes n list h k one l) .low;
-  high = λ one. edges-fit n list k (record-passes n list h k one l) .high;
-  weight = λ one. edges-fit n list k (record-passes n list h k one l) .weight;
+  low = λ one. parts-of-record n list k (record-passes n list h k one l) .low;
+  high = λ one. parts-of-record n list k (record-passes n list h k one l) .high;
+  weight = λ one. parts-of-record n list k (record-passes n list h k one l) .weight;
 }
 
 -- ---- the value on the way

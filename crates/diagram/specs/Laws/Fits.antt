@@ -1,7 +1,7 @@
 -- The records of an accepted table pass Walk's check.
 use Prim.Native.Nat.{ℕ, zero, suc, _+_, _-_, _*_, _%_, _^_, _≤_, _<_}
 use mathlib.Core.Path.{_≡_, refl, _∙_, ap, ap₂}
-use mathlib.Core.Bool.{Bool, true, _&&_, _||_, or-true}
+use mathlib.Core.Bool.{true, _&&_, _||_, or-true}
 use mathlib.Core.List.{List}
 use native.Mathlib.Omega.{arith}
 use lib.ListN.{length, getD}
@@ -20,8 +20,9 @@ use Rattle.blocks.specs.Blocks.{block, first, lowerHalf, upperHalf}
 use Rattle.blocks.specs.Laws.Blocks.{block-at}
 use Rattle.diagram.specs.Records.{recordsBelow, node, records, recordSize}
 use Rattle.diagram.specs.Build.{nodeRoom}
-use Rattle.diagram.specs.Walk.{variableAt, lowAt, highAt, weightAt, childFits, recordFits, recordCount, listFits}
+use Rattle.diagram.specs.Walk.{variableAt, childFits, recordFits, recordCount, listFits}
 use Rattle.diagram.specs.Accepted.{written}
+use Rattle.diagram.specs.Laws.Checks.{fits-by-parts}
 use Rattle.diagram.specs.Laws.Alike.{lower-of-block, upper-of-block, twice-blocks}
 use Rattle.diagram.specs.Laws.Nodes.{node-below, node-branching}
 use Rattle.diagram.specs.Laws.Numbering.{records-room, written-length, written-whole, written-count, numbered, kind-variable, StandsFor}
@@ -63,27 +64,16 @@ module _ (n : ℕ) (table : List ℤ) (size : length table ≡ 2 ^ n) (values : 
 
   -- Each record fits.
   pub record-fits : (m : ℕ) → 0 < m → m ≤ length (records n table) → recordFits n (written n table) m ≡ true
-  unfolding recordFits
   record-fits m h l =
-      and-both (variable-fits && low-fits && high-fits) (isWeight (weightAt list m))
-      (and-both (variable-fits && low-fits) high-fits
-      (and-both variable-fits low-fits
-      (ap (within (pos 0) (pos (n - 1))) (s .variable) ∙ within-pos (n - 1) i (let p = r .lower in omega arith))
-      (ap (childFits list m) (s .low) ∙ child-fits n table m i (node n table i (lowerHalf i whole)) (r .lower) (node-below n table size i (lowerHalf i whole) (height-within n table size r) (lower-like n table size r)) later (s .variable)))
-      (ap (childFits list m) (s .high) ∙ child-fits n table m i (node n table i (upperHalf i whole)) (r .lower) (node-below n table size i (upperHalf i whole) (height-within n table size r) (upper-like n table size r)) later (s .variable)))
-      (ap isWeight (s .weight) ∙ block-weight i (r .place) (r .lower) (r .inside))
+      fits-by-parts n list m (record {
+        variable = ap (within (pos 0) (pos (n - 1))) (s .variable) ∙ within-pos (n - 1) i (let p = r .lower in omega arith);
+        low = ap (childFits list m) (s .low) ∙ child-fits n table m i (node n table i (lowerHalf i whole)) (r .lower) (node-below n table size i (lowerHalf i whole) (height-within n table size r) (lower-like n table size r)) later (s .variable);
+        high = ap (childFits list m) (s .high) ∙ child-fits n table m i (node n table i (upperHalf i whole)) (r .lower) (node-below n table size i (upperHalf i whole) (height-within n table size r) (upper-like n table size r)) later (s .variable);
+        weight = ap isWeight (s .weight) ∙ block-weight i (r .place) (r .lower) (r .inside);
+      })
     where
       list : List ℤ
       list = written n table
-
-      variable-fits : Bool
-      variable-fits = within (pos 0) (pos (n - 1)) (variableAt list m)
-
-      low-fits : Bool
-      low-fits = childFits list m (lowAt list m)
-
-      high-fits : Bool
-      high-fits = childFits list m (highAt list m)
 
       r : RecordBlock n table m
       r = record-block n table size m h l

@@ -3,7 +3,6 @@ use Prim.Native.Nat.{ℕ, suc}
 use mathlib.Core.Path.{_≡_, refl, sym, _∙_, ap, ap₂}
 use mathlib.Core.Bool.{true}
 use mathlib.Core.List.{List, [], _∷_, _++_, map, flatMap, append-assoc, append-nil}
-use lib.Dec.{ltb}
 use lib.IntN.{ℤ, pos}
 use Rattle.numbers.specs.Lists.{every}
 use Rattle.numbers.specs.Laws.Bools.{both, and-both}

@@ -1,7 +1,7 @@
 -- How long the text is at most: every field is within ±16,777,215, so that with its space it takes at most 10 bytes.
 use Prim.Native.Nat.{ℕ, zero, suc, _+_, _-_, _*_, _/_, _%_, _≤_, _<_}
 use mathlib.Core.Path.{_≡_, refl, sym, _∙_, ap}
-use mathlib.Core.Bool.{Bool, true, _&&_}
+use mathlib.Core.Bool.{Bool, true}
 use mathlib.Core.List.{List, [], _∷_, _++_, flatMap}
 use Prim.Native.String.{String}
 use native.Mathlib.Omega.{arith}
@@ -17,8 +17,8 @@ use Rattle.numbers.specs.Laws.Integers.{sub-zero}
 use Rattle.numbers.specs.Laws.Lists.{every-from}
 use Rattle.diagram.specs.Accepted.{Accepted, written}
 use Rattle.diagram.specs.Records.{Record, records, recordNumbers, recordSize, offset, nodeCount}
-use Rattle.diagram.specs.Walk.{numberAt, variableAt, lowAt, highAt, weightAt, childFits, recordFits}
-use Rattle.diagram.specs.Laws.Checks.{counted, child-node}
+use Rattle.diagram.specs.Walk.{numberAt, variableAt, lowAt, highAt, weightAt, childFits}
+use Rattle.diagram.specs.Laws.Checks.{counted, child-node, RecordParts, parts-of-record}
 use Rattle.diagram.specs.Laws.Fits.{record-fits}
 use Rattle.diagram.specs.Laws.Numbering.{written-length, records-room}
 use Rattle.image.specs.Cells.{Cell, bitsOf, totalBits}
@@ -109,29 +109,14 @@ node-lines-length (r ∷ rs) k small few =
 module _ (n : ℕ) (table : List ℤ) (a : Accepted n table) where
   -- The numbers of each record are small.
   record-numbers : (m : ℕ) → 0 < m → m ≤ length (records n table) → (c : ℕ) → c < 4 → isWeight (numberAt (written n table) m c) ≡ true
-  unfolding recordFits variableAt lowAt highAt weightAt
+  unfolding variableAt lowAt highAt weightAt
   record-numbers m some last = each
     where
       list : List ℤ
       list = written n table
 
-      variable-fits : Bool
-      variable-fits = within (pos 0) (pos (n - 1)) (variableAt list m)
-
-      low-fits : Bool
-      low-fits = childFits list m (lowAt list m)
-
-      high-fits : Bool
-      high-fits = childFits list m (highAt list m)
-
-      whole : (variable-fits && low-fits && high-fits && isWeight (weightAt list m)) ≡ true
-      whole = record-fits n table (a .size) (a .values) m some last
-
-      children : (variable-fits && low-fits && high-fits) ≡ true
-      children = both (variable-fits && low-fits && high-fits) (isWeight (weightAt list m)) whole .0
-
-      front : (variable-fits && low-fits) ≡ true
-      front = both (variable-fits && low-fits) high-fits children .0
+      parts : RecordParts n list m
+      parts = parts-of-record n list m (record-fits n table (a .size) (a .values) m some last)
 
       number : (m ≤ 4096) × (n ≤ 12)
       number =
@@ -147,10 +132,10 @@ module _ (n : ℕ) (table : List ℤ) (a : Accepted n table) where
       child z fits = below (m - 1) z (let few = number .0 in omega arith) (child-node list m z fits)
 
       each : (c : ℕ) → c < 4 → isWeight (numberAt list m c) ≡ true
-      each zero l = below (n - 1) (variableAt list m) (let few = number .1 in omega arith) (counted (n - 1) (variableAt list m) (both variable-fits low-fits front .0))
-      each (suc zero) l = child (lowAt list m) (both variable-fits low-fits front .1)
-      each (suc (suc zero)) l = child (highAt list m) (both (variable-fits && low-fits) high-fits children .1)
-      each (suc (suc (suc zero))) l = both (variable-fits && low-fits && high-fits) (isWeight (weightAt list m)) whole .1
+      each zero l = below (n - 1) (variableAt list m) (let few = number .1 in omega arith) (counted (n - 1) (variableAt list m) (parts .variable))
+      each (suc zero) l = child (lowAt list m) (parts .low)
+      each (suc (suc zero)) l = child (highAt list m) (parts .high)
+      each (suc (suc (suc zero))) l = parts .weight
       each (suc (suc (suc (suc c)))) l = absurd (omega arith)
 
   -- All numbers of the records are small.

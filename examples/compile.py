@@ -1,6 +1,6 @@
-"""Compiles a table in decimal text, prints its image command by command, and expands the image again.
+"""Compiles a table in decimal text, prints its image command by command, and reads the image back: Run at X, and Expand.
 
-usage: python3 examples/compile.py LIBRARY TABLE
+usage: python3 examples/compile.py LIBRARY TABLE X
 """
 import ctypes
 import sys
@@ -8,6 +8,7 @@ import sys
 size = ctypes.c_size_t
 library = ctypes.CDLL(sys.argv[1])
 library.panstrait_compile.restype = ctypes.c_uint8
+library.panstrait_run.restype = ctypes.c_uint8
 library.panstrait_expand.restype = ctypes.c_uint8
 
 n, limit, *values = [int(word) for word in open(sys.argv[2]).read().split()]
@@ -25,6 +26,13 @@ at = 0
 while at < length.value:
     print(bytes(image[at:at + sizes[image[at]]]).hex(" "))
     at += sizes[image[at]]
+
+x = int(sys.argv[3])
+value, words = ctypes.c_int32(), size()
+refusal = library.panstrait_run(image, length, size(x), ctypes.byref(value), ctypes.byref(words))
+if refusal != 0:
+    sys.exit(f"refused {refusal}")
+print(f"f({x}) = {value.value} by {words.value} words")
 
 expanded = (ctypes.c_int32 * len(table))()
 refusal = library.panstrait_expand(image, length, expanded, size(len(expanded)))

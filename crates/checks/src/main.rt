@@ -1,16 +1,12 @@
 // The checked values that are run, and for every operation its refusals and its answers. Prints a line for each case, and
 // at the end how many passed and failed.
-mod building;
-mod compiling;
-mod expanding;
-mod planning;
-mod rows;
-mod running;
-mod samples;
-mod tally;
-mod walking;
-
-use tally::Tally;
+use cases::tally::Tally;
+use cases_cascade::compiling;
+use cases_cascade::planning;
+use cases_diagram::building;
+use cases_diagram::walking;
+use cases_image::expanding;
+use cases_image::running;
 
 fn main() {
     let tally = Tally {

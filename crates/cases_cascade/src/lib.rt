@@ -1,0 +1,3 @@
+// The cases of Plan and Compile.
+pub mod compiling;
+pub mod planning;

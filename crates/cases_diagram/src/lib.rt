@@ -1,0 +1,3 @@
+// The cases of Build and Walk.
+pub mod building;
+pub mod walking;

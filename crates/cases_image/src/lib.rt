@@ -1,0 +1,3 @@
+// The cases of Run and Expand.
+pub mod expanding;
+pub mod running;

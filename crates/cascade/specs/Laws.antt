@@ -6,6 +6,7 @@ pub mod Cheapest
 pub mod Chosen
 pub mod Groupings
 pub mod Lengths
+pub mod Planned
 pub mod WellFormed
 pub mod WordReading
 pub mod Words

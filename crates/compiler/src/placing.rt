@@ -1,6 +1,6 @@
 // The image of planned cells, placed into a lent buffer where it has room.
 ghost use mathlib.Core.Path.{_≡_};
-ghost use Rattle.writer.specs.Inner.Writing.{groups};
+ghost use Rattle.cascade.specs.Inner.Planned.{groups};
 ghost use Rattle.compiler.specs.Inner.Planned.{Places, notCompiled, refusalOf, PlaceReady, TableReady};
 use cascade::Cell;
 use cascade::Compiled;

@@ -3,5 +3,4 @@ pub mod Checks
 pub mod Tests
 pub mod Diagram
 pub mod Cascade
-pub mod Clients
 pub mod Image

@@ -3,5 +3,4 @@ pub mod CheckedList
 pub mod Checks
 pub mod Admitted
 pub mod Demands
-pub mod Clients
 pub mod Laws

@@ -23,7 +23,7 @@ fn read_input(buffer: &mut [u8; KEPT]) -> Input
 fn list_kept(kept: &[u8], text: &mut [u8; TEXT_ROOM]) -> usize
     ensures { λ r. ⌜ ListsKept (now (kept .entry)) (now (text .entry)) r (now (text .exit)) ⌝ }
 {
-    match listing::list(kept, text) {
+    match lister::list(kept, text) {
         listing::Listed::Text { length } => length,
         listing::Listed::TooShort => 0,
     }

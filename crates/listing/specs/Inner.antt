@@ -1,3 +1,2 @@
 -- What inner functions promise and hold.
-pub mod Listed
 pub mod Values

@@ -3,5 +3,4 @@ pub mod Apart
 pub mod Inputs
 pub mod Lengths
 pub mod Listed
-pub mod Texts
 pub mod Values

@@ -5,7 +5,7 @@ ghost use lib.ListN.{length};
 ghost use Rattle.listing.specs.Inner.Values.{valuesOf};
 
 // The values behind the first two bytes, as many as there are places.
-pub(crate) fn read_values(input: &[u8], values: &mut [i32])
+pub fn read_values(input: &[u8], values: &mut [i32])
     requires { ⌜ 2 + 4 * length (now values) ≤ length (now input) ⌝ }
     ensures { λ _. ⌜ now (values .exit) ≡ valuesOf (now (input .entry)) (length (now (values .entry))) ⌝ }
 {

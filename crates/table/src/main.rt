@@ -37,7 +37,7 @@ fn list_text(text: &[u8], out: &mut [u8; TEXT_ROOM]) -> Answer
 {
     let mut input = [0u8; INPUT_ROOM];
     match parser::parse(text, &mut input) {
-        Parsed::Input { length } => Answer::Listing(listing::list_input(&input[..length], out)),
+        Parsed::Input { length } => Answer::Listing(lister::list_input(&input[..length], out)),
         Parsed::Wrong { line, expected } => Answer::Wrong { line, expected },
         Parsed::TooShort => Answer::Listing(0),
     }

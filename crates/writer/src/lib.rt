@@ -7,7 +7,8 @@ ghost use Rattle.numbers.specs.Inner.Rows.{overwritten};
 ghost use Rattle.cascade.specs.Cascade.{cellOf};
 ghost use Rattle.cascade.specs.Compile.{imageFor};
 ghost use Rattle.cascade.specs.Groupings.{cost};
-ghost use Rattle.writer.specs.Inner.Writing.{wordBytes, cellBytes, cellsBytes, groups, RowsKnown, CellPlanned, CellsPlanned};
+ghost use Rattle.cascade.specs.Inner.Planned.{groups};
+ghost use Rattle.writer.specs.Inner.Writing.{wordBytes, cellBytes, cellsBytes, RowsKnown, CellPlanned, CellsPlanned};
 use cascade::Cell;
 
 // The words of a cell from cut h, behind its command, in the tail that is left of the image.

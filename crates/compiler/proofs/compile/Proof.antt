@@ -4,8 +4,9 @@ use borrow.Author.Needs.{needs}
 use Rattle.cascade.specs.Compile.{Compiles}
 use Rattle.cascade.specs.declared.Compiled.{Compiled}
 use Rattle.compiler.specs.Inner.Planned.{notCompiled, refusalOf}
-use Rattle.compiler.specs.Laws.Compiles.{plan-refused, handed-on, placed-compiles}
-use Rattle.compiler.specs.Laws.Ready.{planned-groups, table-ready}
+use Rattle.cascade.specs.Laws.Planned.{plan-refused, planned-groups}
+use Rattle.compiler.specs.Laws.Compiles.{handed-on, placed-compiles}
+use Rattle.compiler.specs.Laws.Ready.{table-ready}
 use Rattle.compiler.proofs.compile.Statement.{statement}
 use Rattle.compiler.proofs.compile.Tie as tie
 
@@ -41,7 +42,7 @@ returns c =
     let s = k .before .before .before .before .before in
     let number = c .before .refusal .ensures ∙ ap refusalOf (e .enum-told .given .1) in
     subst⁻¹ (λ (r : Compiled). Compiles (s .args .n) (s .args .table .now) (s .args .limit) (s .args .image .now) r (s .args .image .now)) (c .not-compiled .ensures ∙ ap notCompiled number)
-    (handed-on (s .args .n) (s .args .table .now) (s .args .limit) (s .args .image .now) _ (plan-refused (s .args .n) (s .args .table .now) (s .args .limit) (k .plan-in .result) _ (k .plan-in .ensures .0) (e .enum-told .given .1)))
+    (handed-on (s .args .n) (s .args .table .now) (s .args .limit) (s .args .image .now) _ (plan-refused (s .args .n) (s .args .table .now) (s .args .limit) (k .plan-in .result) (k .plan-in .ensures .0) _ (e .enum-told .given .1)))
 
 slice-aggregate-place-table : tie.Need-slice-aggregate-place-table
 slice-aggregate-place-table c = search needs
@@ -57,7 +58,7 @@ place-table-requires c κs =
     let v = c .before .before .before .before .before .before in
     let k = v .before .before .before .before .before in
     let s = k .before .before .before .before .before in
-    table-ready (s .args .n) (s .args .table .now) (s .args .limit) (k .plan-in .result) _ _ (k .plan-in .ensures .0) (v .verdict .given .1)
+    table-ready (s .args .n) (s .args .table .now) (s .args .limit) (k .plan-in .result) (k .plan-in .ensures .0) _ _ (v .verdict .given .1)
     (record { classPlaces = refl; firstPlaces = refl; countPlaces = refl }) (k .plan-in .ensures .1)
 
 same-length : tie.Need-same-length
@@ -70,7 +71,7 @@ returns-2 c =
     let k = v .before .before .before .before .before in
     let s = k .before .before .before .before .before in
     placed-compiles (s .args .n) (s .args .table .now) _ (s .args .image .now) (s .args .limit) (d .place-table .result) _
-    (planned-groups (s .args .n) (s .args .table .now) (s .args .limit) (k .plan-in .result) _ _ (k .plan-in .ensures .0) (v .verdict .given .1)) (d .place-table .ensures)
+    (planned-groups (s .args .n) (s .args .table .now) (s .args .limit) (k .plan-in .result) (k .plan-in .ensures .0) _ _ (v .verdict .given .1)) (d .place-table .ensures)
 
 pub compile-spec : {M : Type 1} → statement M
 compile-spec =

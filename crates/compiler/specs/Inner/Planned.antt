@@ -1,8 +1,7 @@
 -- What compiling starts from and leaves: planned cells, and the image of their grouping.
 use Prim.Native.Nat.{ℕ, suc, _≤_}
 use mathlib.Core.Path.{_≡_}
-use mathlib.Core.Bool.{true}
-use mathlib.Core.List.{List, [], map}
+use mathlib.Core.List.{List, []}
 use lib.ListN.{length, take}
 use lib.Dec.{leb}
 use lib.IntN.{ℤ}
@@ -11,24 +10,15 @@ use Rattle.numbers.specs.Lists.{padded}
 use Rattle.numbers.specs.Ranges.{mostVariables}
 use Rattle.blocks.specs.Inner.Layout.{cutPlace, allNumbers, allFirsts, allCounts}
 use Rattle.diagram.specs.Accepted.{Accepted}
-use Rattle.cascade.specs.Cascade.{cellsFrom}
 use Rattle.cascade.specs.Compile.{imageFor, report, outcome}
-use Rattle.cascade.specs.Groupings.{cost, isGrouping}
-use Rattle.cascade.specs.Plan.{planCell, noCell, cellArray}
+use Rattle.cascade.specs.Plan.{noCell, cellArray}
+use Rattle.cascade.specs.Inner.Planned.{groups, PlannedAs}
 use Rattle.cascade.specs.declared.Cell.{Cell}
 use Rattle.cascade.specs.declared.Compiled.{Compiled}
 use Rattle.cascade.specs.declared.Verdict.{Verdict}
 use Rattle.cascade.specs.declared.Verdict.the-variants.{Grouping, Refused as NoGrouping}
 use Rattle.prices.specs.Inner.Ready.{RowsKnown}
-use Rattle.writer.specs.Inner.Writing.{groups}
 use Rattle.cascade.specs.declared.Outcome.the-variants.{Refused}
-
--- Plan's cells for a grouping of a table: their number and their bits.
-pub record PlannedAs (n : ℕ) (table : List ℤ) (sizes : List ℕ) (cells : List Cell) (count bits : ℕ) : Type 0 where
-  pub grouping : isGrouping n sizes ≡ true
-  pub listed : cells ≡ padded mostVariables noCell (map planCell (cellsFrom n table 0 sizes))
-  pub counted : count ≡ length sizes
-  pub total : bits ≡ cost n table sizes
 
 -- The image of a grouping goes into a buffer of so many bytes, or 10.
 unfoldable pub imagePlaced : ℕ → List ℤ → List ℕ → ℕ → Answer (List ℕ)

@@ -1,36 +1,26 @@
 -- What is answered and written is Compile's answer.
 use Prim.Native.Nat.{ℕ, _≤_, _<_}
-use mathlib.Core.Path.{_≡_, sym, _∙_, ap}
+use mathlib.Core.Path.{_≡_, _∙_}
 use mathlib.Core.List.{List}
 use lib.ListN.{length}
 use lib.IntN.{ℤ}
 use borrow.Author.Tests.{le-leb, lt-leb}
-use Rattle.numbers.specs.Answers.{Answer, accepted, refused, mapAnswer}
+use Rattle.numbers.specs.Answers.{accepted, refused}
 use Rattle.numbers.specs.Inner.Rows.{overwritten}
 use Rattle.numbers.specs.Laws.Rows.{overwritten-front}
 use Rattle.diagram.specs.Records.{nodeCount}
 use Rattle.cascade.specs.Compile.{imageFor, compile, report, compileAnswer, compileCells, compileBuffer, outcome, Compiles}
 use Rattle.cascade.specs.Groupings.{cost}
-use Rattle.cascade.specs.Plan.{plan, entries, cellArray, totals, planAnswer, judgement, Plans}
+use Rattle.cascade.specs.Plan.{plan, entries, cellArray, totals}
 use Rattle.cascade.specs.declared.Cell.{Cell}
 use Rattle.cascade.specs.declared.Compiled.{Compiled}
 use Rattle.cascade.specs.declared.Outcome.the-variants.{Image}
-use Rattle.cascade.specs.declared.Planned.{Planned}
-use Rattle.cascade.specs.declared.Verdict.the-variants.{Refused}
-use Rattle.compiler.specs.Inner.Planned.{PlannedAs, imagePlaced, Places, notCompiled}
+use Rattle.cascade.specs.Inner.Planned.{PlannedAs}
+use Rattle.compiler.specs.Inner.Planned.{imagePlaced, Places, notCompiled}
 
 -- ---- no grouping
 
--- Plan's refusal is the number of its verdict.
-pub plan-refused : (n : ℕ) (table : List ℤ) (limit : ℕ) (p : Planned) (k : ℕ) → Plans n table limit p → p .verdict ≡ Refused k → plan n table limit ≡ refused k
-unfolding judgement planAnswer
-plan-refused n table limit p k plans e = unmapped (plan n table limit) (sym (sym (ap judgement e) ∙ plans .judged))
-  where
-    unmapped : (answer : Answer (List ℕ)) → mapAnswer (totals n table) answer ≡ refused k → answer ≡ refused k
-    unmapped (accepted sizes) f = cc
-    unmapped (refused j) f = cc
-
--- It is handed on, and every byte stays.
+-- Plan's refusal is handed on, and every byte stays.
 pub handed-on : (n : ℕ) (table : List ℤ) (limit : ℕ) (buffer : List ℕ) (k : ℕ) → plan n table limit ≡ refused k → Compiles n table limit buffer (notCompiled k) buffer
 unfolding compile compileAnswer compileCells compileBuffer cellArray entries notCompiled outcome
 handed-on n table limit buffer k e = record { answered = rw e; priced = rw e; left = rw e }

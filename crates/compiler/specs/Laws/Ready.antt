@@ -8,23 +8,22 @@ use native.Mathlib.Omega.{arith}
 use lib.ListN.{length, take}
 use lib.Pow.{pow-mono}
 use lib.IntN.{ℤ}
-use Rattle.numbers.specs.Answers.{accepted}
 use Rattle.numbers.specs.Ranges.{isLimit}
 use Rattle.numbers.specs.Inner.Rows.{overwritten}
 use Rattle.numbers.specs.Laws.Overwriting.{take-overwritten, length-overwritten}
 use Rattle.blocks.specs.Inner.Layout.{cutPlace, allNumbers, allFirsts, allCounts}
 use Rattle.blocks.specs.Laws.Places.{length-numbers, length-firsts, length-counts}
 use Rattle.diagram.specs.Accepted.{Accepted}
-use Rattle.cascade.specs.Plan.{plan, Plans}
+use Rattle.cascade.specs.Plan.{Plans}
+use Rattle.cascade.specs.Inner.Planned.{groups, Chosen}
 use Rattle.cascade.specs.declared.Planned.{Planned}
 use Rattle.cascade.specs.declared.Verdict.the-variants.{Grouping}
 use Rattle.cascade.specs.Laws.Admitting.{plan-admits}
 use Rattle.cascade.specs.Laws.Cells.{variables-most}
+use Rattle.cascade.specs.Laws.Planned.{plan-chosen, plan-accepts, groups-are}
 use Rattle.planner.specs.Inner.Rows.{isClassed, RowsRoom, RowsLeft}
 use Rattle.planner.specs.Laws.Rows.{classed}
-use Rattle.writer.specs.Inner.Writing.{groups}
 use Rattle.compiler.specs.Inner.Planned.{TableReady}
-use Rattle.compiler.specs.Laws.Planned.{Chosen, plan-chosen, groups-are}
 
 -- The front of a row that was overwritten, and its length.
 front-of : {A : Type 0} (row new : List A) → take (length new) (overwritten row 0 new) ≡ new
@@ -35,12 +34,12 @@ places-most : (n : ℕ) → n ≤ 12 → cutPlace (suc n) ≤ 8191
 unfolding cutPlace
 places-most n few = let m = pow-mono {i = suc n} {j = 13} (omega arith) in omega arith
 
-module _ (n : ℕ) (table : List ℤ) (limit : ℕ) (p : Planned) (count bits : ℕ) (plans : Plans n table limit p) (grouped : p .verdict ≡ Grouping count bits) where
+module _ (n : ℕ) (table : List ℤ) (limit : ℕ) (p : Planned) (plans : Plans n table limit p) (count bits : ℕ) (grouped : p .verdict ≡ Grouping count bits) where
   chosen : Chosen n table limit (p .cells) count bits
-  chosen = plan-chosen n table limit p count bits plans grouped
+  chosen = plan-chosen n table limit p plans count bits grouped
 
   admitted : Accepted n table
-  admitted = plan-admits n table limit (chosen .sizes) (chosen .chosen) .0
+  admitted = plan-accepts n table limit p plans count bits grouped
 
   limited : isLimit limit ≡ true
   limited = plan-admits n table limit (chosen .sizes) (chosen .chosen) .1 .0
@@ -48,9 +47,6 @@ module _ (n : ℕ) (table : List ℤ) (limit : ℕ) (p : Planned) (count bits : 
   -- The planned cells are those of Plan's sizes.
   are : groups (p .cells) count ≡ chosen .sizes
   are = groups-are admitted (chosen .planned)
-
-  pub planned-groups : plan n table limit ≡ accepted (groups (p .cells) count)
-  planned-groups = chosen .chosen ∙ ap accepted (sym are)
 
   pub table-ready : {classRow firstRow countRow classRow′ firstRow′ countRow′ : List ℕ} → RowsRoom classRow firstRow countRow → RowsLeft n table limit classRow firstRow countRow classRow′ firstRow′ countRow′ → TableReady n table classRow′ firstRow′ countRow′ (p .cells) count bits
   table-ready {classRow} {firstRow} {countRow} {classRow′} {firstRow′} {countRow′} room rows = record {

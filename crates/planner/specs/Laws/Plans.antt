@@ -2,7 +2,7 @@
 use Prim.Native.Nat.{ℕ, zero, suc, _+_, _^_, _<_}
 use mathlib.Core.Path.{_≡_, refl, sym, _∙_, ap, ap₂}
 use mathlib.Core.Bool.{true, false}
-use mathlib.Core.List.{List, [], _∷_, map}
+use mathlib.Core.List.{List, _∷_, map}
 use lib.ListN.{length, length-map}
 use lib.Dec.{ltb}
 use lib.IntN.{ℤ}
@@ -16,7 +16,7 @@ use Rattle.diagram.specs.Build.{ofTable}
 use Rattle.diagram.specs.Inner.Checks.{tableChecks}
 use Rattle.diagram.specs.Laws.Builds.{after-checks}
 use Rattle.image.specs.Cells.{totalBits}
-use Rattle.cascade.specs.Cascade.{cellOf, cellsFrom}
+use Rattle.cascade.specs.Cascade.{cellsFrom}
 use Rattle.cascade.specs.Groupings.{chosen, cost}
 use Rattle.cascade.specs.Plan.{plan, planCell, noCell, entries, sizeArray, cellArray, totals, planAnswer, judgement, Plans}
 use Rattle.cascade.specs.Theorems.{plan-chooses}
@@ -25,6 +25,7 @@ use Rattle.cascade.specs.declared.Choice.{Choice}
 use Rattle.cascade.specs.declared.Choice.the-variants.{NoList, Costing}
 use Rattle.cascade.specs.Laws.Cheapest.{sizes-step, sizes-end}
 use Rattle.cascade.specs.Laws.Chosen.{chosen-by-choices, choice-top-cost}
+use Rattle.cascade.specs.Laws.Planned.{groups-back}
 use Rattle.cells.specs.Inner.Listed.{chosenCells, ChoicesKnown, CellChosen, ListChosen, listedPlan}
 use Rattle.planner.specs.Inner.Rows.{refusedPlan}
 use Rattle.cells.specs.Laws.Leading.{leads, size-is, cell-is}
@@ -55,12 +56,6 @@ module _ (n : ℕ) (table : List ℤ) (limit : ℕ) where
     plan-none l e = plan-chooses n table a limit l ∙ chosen-by-choices n table limit ∙ ap (λ choice. answered choice (sizesFrom (tableChoice n table limit) n n 0)) e
 
 -- ---- the chosen cells
-
--- The sizes of a list of cells.
-pub groups-back : (n : ℕ) (table : List ℤ) (h : ℕ) (sizes : List ℕ) → map (λ cell. cell .group) (map planCell (cellsFrom n table h sizes)) ≡ sizes
-unfolding planCell cellsFrom cellOf
-groups-back n table h [] = refl
-groups-back n table h (g ∷ sizes) = ap (λ rest. g ∷ rest) (groups-back n table (h + g) sizes)
 
 module _ {n : ℕ} {countRow : List ℕ} {choices : List Choice} (k : ChoicesKnown n countRow choices) where
   abbrev table : List ℤ

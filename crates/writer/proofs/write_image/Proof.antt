@@ -9,7 +9,8 @@ use mir.Facts.{toZ-ofZ}
 use borrow.Author.Needs.{sfits-of, needs}
 use Rattle.blocks.specs.Blocks.{first}
 use Rattle.cascade.specs.Laws.Cells.{variables-most}
-use Rattle.writer.specs.Inner.Writing.{cellsBytes, groups}
+use Rattle.cascade.specs.Inner.Planned.{groups}
+use Rattle.writer.specs.Inner.Writing.{cellsBytes}
 use Rattle.writer.specs.Laws.Images.{image-bytes, image-written}
 use Rattle.writer.proofs.write_image.Statement.{statement}
 use Rattle.writer.proofs.write_image.Tie as tie

@@ -12,6 +12,7 @@ use Rattle.image.specs.Commands.{commandBytes, wordCommand, cellCommands}
 use Rattle.cascade.specs.Cascade.{cellOf, cellsFrom}
 use Rattle.cascade.specs.Groupings.{cost, isGrouping}
 use Rattle.cascade.specs.Plan.{planCell}
+use Rattle.cascade.specs.Inner.Planned.{groups}
 use Rattle.cascade.specs.declared.Cell.{Cell as PlanCell}
 
 -- The bytes of words.
@@ -36,10 +37,6 @@ pub record RowsKnown (n : ℕ) (table : List ℤ) (classRow firstRow : List ℕ)
 pub record CellPlanned (n h : ℕ) (table : List ℤ) (cell : PlanCell) : Type 0 where
   pub ends : h + cell .group ≤ n
   pub planned : cell ≡ planCell (cellOf n table h (cell .group))
-
--- The sizes of the first so many planned cells.
-unfoldable pub groups : List PlanCell → ℕ → List ℕ
-groups cells count = map (λ cell. cell .group) (take count cells)
 
 -- The first so many cells are those of a grouping of the table, with so many bits in all.
 pub record CellsPlanned (n : ℕ) (table : List ℤ) (cells : List PlanCell) (count bits : ℕ) : Type 0 where

@@ -26,7 +26,8 @@ use Rattle.cascade.specs.Laws.Groupings.{grouping-length}
 use Rattle.cascade.specs.Laws.Lengths.{cell-length}
 use Rattle.cascade.specs.Plan.{planCell}
 use Rattle.cascade.specs.declared.Cell.{Cell as PlanCell}
-use Rattle.writer.specs.Inner.Writing.{wordBytes, cellBytes, cellsBytes, groups, CellPlanned, CellsPlanned}
+use Rattle.cascade.specs.Inner.Planned.{groups}
+use Rattle.writer.specs.Inner.Writing.{wordBytes, cellBytes, cellsBytes, CellPlanned, CellsPlanned}
 use Rattle.numbers.specs.Laws.Written.{written-behind, length-kept}
 use Rattle.writer.specs.Laws.Words.{incoming-is, outgoing-is, width-is, words-are}
 

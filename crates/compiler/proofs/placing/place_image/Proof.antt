@@ -4,7 +4,7 @@ use lib.ListN.{length}
 use borrow.Author.Needs.{needs}
 use Rattle.cascade.specs.Compile.{imageFor}
 use Rattle.cascade.specs.declared.Compiled.{Compiled}
-use Rattle.writer.specs.Inner.Writing.{groups}
+use Rattle.cascade.specs.Inner.Planned.{groups}
 use Rattle.compiler.specs.Inner.Planned.{Places}
 use Rattle.compiler.specs.Laws.Compiles.{places-short, places-image}
 use Rattle.compiler.specs.Laws.Planned.{length-is, small-cells, cells-planned}

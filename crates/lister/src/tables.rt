@@ -2,10 +2,10 @@
 ghost use Prim.Native.Nat.{_≤_};
 ghost use lib.ListN.{length};
 ghost use Rattle.cascade.specs.Plan.{plan};
-ghost use Rattle.writer.specs.Inner.Writing.{groups};
+ghost use Rattle.cascade.specs.Inner.Planned.{groups};
 ghost use Rattle.listing.specs.Listing.{tableText, answerText};
-ghost use Rattle.listing.specs.Inner.Listed.{TextReady};
+ghost use Rattle.lister.specs.Inner.Listed.{TextReady};
 ghost use Rattle.listing.specs.Program.{textRoom};
 ghost use Rattle.lines.specs.Inner.Writing.{Writes};
 use cascade::Cell;
 use cascade::Verdict;

@@ -1,12 +1,11 @@
--- `listing::tables::list_table` meets its contract, by Plan's verdict. Assumes nothing.
+-- `lister::tables::list_table` meets its contract, by Plan's verdict. Assumes nothing.
 use native.Mathlib.Omega.{arith}
-use Rattle.compiler.specs.Laws.Compiles.{plan-refused}
-use Rattle.compiler.specs.Laws.Ready.{planned-groups}
+use Rattle.cascade.specs.Laws.Planned.{plan-refused, planned-groups}
 use Rattle.listing.specs.Listing.{answerText}
-use Rattle.listing.specs.Laws.Texts.{text-ready, refusal-fits}
+use Rattle.lister.specs.Laws.Texts.{text-ready, refusal-fits}
 use borrow.Author.Needs.{needs}
-use Rattle.listing.proofs.tables.list_table.Statement.{statement}
-use Rattle.listing.proofs.tables.list_table.Tie as tie
+use Rattle.lister.proofs.tables.list_table.Statement.{statement}
+use Rattle.lister.proofs.tables.list_table.Tie as tie
 
 plan-requires : tie.Need-plan-requires
 plan-requires c κs = search needs
@@ -32,7 +31,7 @@ returns c =
     let v = c .before .before .before .before .before in
     let b = v .before .before .before in
     let s = b .before .before in
-    rw (plan-refused (s .args .n) (s .args .table .now) (s .args .limit) (b .plan .result) _ (b .plan .ensures) (v .verdict .given .1)) (c .before .before .write-refusal .ensures)
+    rw (plan-refused (s .args .n) (s .args .table .now) (s .args .limit) (b .plan .result) (b .plan .ensures) _ (v .verdict .given .1)) (c .before .before .write-refusal .ensures)
 
 same-length-2 : tie.Need-same-length-2
 same-length-2 c = search needs
@@ -43,7 +42,7 @@ returns-2 c =
     let v = c .before .before .before .before .before in
     let b = v .before .before .before in
     let s = b .before .before in
-    rw (planned-groups (s .args .n) (s .args .table .now) (s .args .limit) (b .plan .result) _ _ (b .plan .ensures) (v .verdict2 .given .1)) (c .before .before .write-table .ensures)
+    rw (planned-groups (s .args .n) (s .args .table .now) (s .args .limit) (b .plan .result) (b .plan .ensures) _ _ (v .verdict2 .given .1)) (c .before .before .write-table .ensures)
 
 pub list-table-spec : {M : Type 1} → statement M
 list-table-spec =

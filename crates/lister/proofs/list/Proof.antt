@@ -1,15 +1,15 @@
--- `listing::list` meets its contract, by the length of its buffer. Assumes nothing.
+-- `lister::list` meets its contract, by the length of its buffer. Assumes nothing.
 use mathlib.Core.Path.{_∙_, ap}
 use native.Mathlib.Nat.{zero-add}
 use lib.ListN.{length}
 use borrow.Author.Tests.{le-leb, lt-leb}
 use Rattle.numbers.specs.Laws.Rows.{overwritten-front}
 use Rattle.listing.specs.Listing.{listing}
 use Rattle.listing.specs.Program.{textRoom, listAnswer, listBuffer}
 use Rattle.listing.specs.declared.Listed.the-variants.{Text}
 use borrow.Author.Needs.{needs}
-use Rattle.listing.proofs.list.Statement.{statement}
-use Rattle.listing.proofs.list.Tie as tie
+use Rattle.lister.proofs.list.Statement.{statement}
+use Rattle.lister.proofs.list.Tie as tie
 
 returns : tie.Need-returns
 unfolding listAnswer listBuffer textRoom

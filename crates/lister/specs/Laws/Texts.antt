@@ -28,18 +28,17 @@ use Rattle.cascade.specs.Groupings.{cost}
 use Rattle.cascade.specs.Plan.{planCell, noCell, Plans}
 use Rattle.cascade.specs.declared.Planned.{Planned}
 use Rattle.cascade.specs.declared.Verdict.the-variants.{Grouping}
-use Rattle.cascade.specs.Laws.Admitting.{plan-admits}
 use Rattle.cascade.specs.declared.Cell.{Cell as PlanCell}
 use Rattle.cascade.specs.Laws.Cards.{grouping-sum}
 use Rattle.cascade.specs.Laws.Cells.{variables-most, cell-address, cell-incoming, cell-outgoing, cell-width-most, cell-bits-most}
 use Rattle.cascade.specs.Laws.Lengths.{cost-most}
-use Rattle.compiler.specs.Inner.Planned.{PlannedAs}
-use Rattle.compiler.specs.Laws.Planned.{front, groups-are, small-cells, plan-chosen}
+use Rattle.cascade.specs.Inner.Planned.{PlannedAs}
+use Rattle.cascade.specs.Laws.Planned.{few, places, front, groups-are, plan-chosen, plan-accepts}
 use Rattle.listing.specs.Listing.{nodeLine, nodeLines, cellLine, tableText}
 use Rattle.lines.specs.Text.{ascii, line}
-use Rattle.listing.specs.Inner.Listed.{TextReady}
+use Rattle.lister.specs.Inner.Listed.{TextReady}
 use Rattle.listing.specs.Program.{textRoom}
 use Rattle.listing.specs.Laws.Lengths.{line-length, count-field}
 use Rattle.texts.specs.Inner.Lines.{recordLine, recordLines, planLine, planLines, diagramText, cascadeText, RecordsThere, CellSmall, CellsSmall}
 
 -- ---- node lines
@@ -133,12 +132,9 @@ module _ {n : ℕ} {table : List ℤ} {sizes : List ℕ} {cells : List PlanCell}
   -- The planned cells can be written.
   pub planned-small : CellsSmall cells count
   planned-small =
-      let few = small-cells a p in
-      let f = few .few in
-      let places = few .places in
       record {
-        few = f;
-        inside = omega arith;
+        few = few a p;
+        inside = let f = few a p in let e = places a p in omega arith;
         small = λ k l. subst (λ (cell : PlanCell). CellSmall cell) (sym (ap (λ c. getD c k noCell) (front a p)) ∙ getD-take count cells k noCell l) (small-from n table a 0 sizes (omega (arith, grouping-sum n sizes (p .grouping))) k (let c = p .counted in omega arith));
       }
 
@@ -167,8 +163,8 @@ module _ {n : ℕ} {table : List ℤ} {sizes : List ℕ} {cells : List PlanCell}
 -- A plan with a grouping: its text can be written into a buffer that holds every text.
 pub text-ready : (n : ℕ) (table : List ℤ) (limit : ℕ) (p : Planned) (count bits : ℕ) (text : List ℕ) → Plans n table limit p → p .verdict ≡ Grouping count bits → textRoom ≤ length text → TextReady n table (p .cells) count bits text
 text-ready n table limit p count bits text plans e room =
-    let chosen = plan-chosen n table limit p count bits plans e in
-    let admitted = plan-admits n table limit (chosen .sizes) (chosen .chosen) .0 in
+    let chosen = plan-chosen n table limit p plans count bits e in
+    let admitted = plan-accepts n table limit p plans count bits e in
     record {
       admitted = admitted;
       planned = subst (λ (sizes : List ℕ). PlannedAs n table sizes (p .cells) count bits) (sym (groups-are admitted (chosen .planned))) (chosen .planned);

@@ -1,4 +1,4 @@
--- `listing::list_values` meets its contract: the row's front is the input's table. Assumes nothing.
+-- `lister::list_values` meets its contract: the row's front is the input's table. Assumes nothing.
 use Prim.Native.Nat.{_^_}
 use mathlib.Core.Path.{_≡_, sym, _∙_, ap}
 use mathlib.Core.List.{_++_}
@@ -6,13 +6,13 @@ use native.Mathlib.Omega.{arith}
 use lib.ListN.{length, take, drop}
 use lib.Seq.{length-take-le, take-at}
 use Rattle.numbers.specs.Laws.Rows.{filled-front}
 use Rattle.listing.specs.Listing.{tableOf}
 use Rattle.listing.specs.Inner.Values.{valuesOf}
 use Rattle.listing.specs.Laws.Listed.{table-length}
 use Rattle.listing.specs.Laws.Values.{values-table}
 use borrow.Author.Needs.{needs}
-use Rattle.listing.proofs.list_values.Statement.{statement}
-use Rattle.listing.proofs.list_values.Tie as tie
+use Rattle.lister.proofs.list_values.Statement.{statement}
+use Rattle.lister.proofs.list_values.Tie as tie
 
 power-requires : tie.Need-power-requires
 power-requires c κs = search needs

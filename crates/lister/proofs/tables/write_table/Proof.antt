@@ -1,4 +1,4 @@
--- `listing::tables::write_table` meets its contract: Build's records and Plan's cells give the text. Assumes nothing.
+-- `lister::tables::write_table` meets its contract: Build's records and Plan's cells give the text. Assumes nothing.
 use Prim.Native.Nat.{ℕ, suc, _+_, _-_, _≤_}
 use mathlib.Core.Path.{_≡_, _∙_, ap}
 use mathlib.Core.List.{List, _++_}
@@ -11,17 +11,17 @@ use mir.Facts.{toZ-ofZ}
 use Rattle.diagram.specs.Build.{Builds, nodeRoom}
 use Rattle.diagram.specs.Records.{records, offset}
 use Rattle.cascade.specs.Laws.Cells.{variables-most}
-use Rattle.writer.specs.Inner.Writing.{groups}
+use Rattle.cascade.specs.Inner.Planned.{groups}
 use Rattle.listing.specs.Listing.{tableText}
 use Rattle.texts.specs.Inner.Lines.{diagramText, cascadeText, RecordsThere}
 use Rattle.listing.specs.Program.{textRoom}
 use Rattle.lines.specs.Inner.Writing.{Writes}
 use Rattle.listing.specs.Laws.Lengths.{table-text-length}
-use Rattle.listing.specs.Laws.Texts.{most-nodes, never-refused, summary-is, records-left, records-there, planned-small, bits-small, whole-text}
+use Rattle.lister.specs.Laws.Texts.{most-nodes, never-refused, summary-is, records-left, records-there, planned-small, bits-small, whole-text}
 use Rattle.lines.specs.Laws.Writing.{writes-behind, same-room}
 use borrow.Author.Needs.{needs}
-use Rattle.listing.proofs.tables.write_table.Statement.{statement}
-use Rattle.listing.proofs.tables.write_table.Tie as tie
+use Rattle.lister.proofs.tables.write_table.Statement.{statement}
+use Rattle.lister.proofs.tables.write_table.Tie as tie
 
 module _ (c : tie.After-build) where
   abbrev start : tie.Start

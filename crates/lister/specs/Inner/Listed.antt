@@ -6,9 +6,8 @@ use lib.ListN.{length}
 use lib.IntN.{ℤ}
 use Rattle.diagram.specs.Accepted.{Accepted}
 use Rattle.cascade.specs.declared.Cell.{Cell}
-use Rattle.writer.specs.Inner.Writing.{groups}
-use Rattle.compiler.specs.Inner.Planned.{PlannedAs}
+use Rattle.cascade.specs.Inner.Planned.{groups, PlannedAs}
 use Rattle.listing.specs.Program.{textRoom}
 
 -- An accepted table, its planned cells, and a buffer that holds every text.
 pub record TextReady (n : ℕ) (table : List ℤ) (cells : List Cell) (count bits : ℕ) (text : List ℕ) : Type 0 where

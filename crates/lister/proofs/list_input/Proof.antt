@@ -1,4 +1,4 @@
--- `listing::list_input` meets its contract, by the checks on the input's bytes. Assumes nothing.
+-- `lister::list_input` meets its contract, by the checks on the input's bytes. Assumes nothing.
 use Prim.Native.Nat.{ℕ, _+_, _*_, _^_, _≤_}
 use mathlib.Core.Path.{_≡_, sym, _∙_}
 use mathlib.Core.Bool.{true}
@@ -9,11 +9,11 @@ use lib.IntN.{pos}
 use borrow.Author.Tests.{not-true, not-false}
 use Rattle.numbers.specs.Ranges.{isVariables}
 use Rattle.diagram.specs.Laws.Checks.{variables-range}
 use Rattle.listing.specs.Laws.Listed.{listed-under-two, listed-outside, listed-miscounted, refusal-listed, plan-listed}
-use Rattle.listing.specs.Laws.Texts.{refusal-fits}
+use Rattle.lister.specs.Laws.Texts.{refusal-fits}
 use borrow.Author.Needs.{needs}
-use Rattle.listing.proofs.list_input.Statement.{statement}
-use Rattle.listing.proofs.list_input.Tie as tie
+use Rattle.lister.proofs.list_input.Statement.{statement}
+use Rattle.lister.proofs.list_input.Tie as tie
 
 module _ (c : tie.After-is-variables) where
   abbrev start : tie.Start

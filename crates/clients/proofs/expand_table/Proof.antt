@@ -1,13 +1,13 @@
--- `demands::expand_table` meets its contract, from the contracts of Compile and Expand. Assumes nothing.
+-- `clients::expand_table` meets its contract, from the contracts of Compile and Expand. Assumes nothing.
 use Prim.Native.Nat.{_≤_}
 use mathlib.Core.Path.{refl, sym}
 use lib.ListN.{length}
 use lib.Seq.{length-take-le}
 use borrow.Author.Needs.{needs}
 use Rattle.image.specs.Run.{expanded}
-use Rattle.demands.specs.Laws.Clients.{front-inside, expand-gives, expand-refused}
-use Rattle.demands.proofs.expand_table.Statement.{statement}
-use Rattle.demands.proofs.expand_table.Tie as tie
+use Rattle.clients.specs.Laws.Clients.{front-inside, expand-gives, expand-refused}
+use Rattle.clients.proofs.expand_table.Statement.{statement}
+use Rattle.clients.proofs.expand_table.Tie as tie
 
 compile-requires : tie.Need-compile-requires
 compile-requires c κs = search needs

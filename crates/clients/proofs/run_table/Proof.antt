@@ -1,13 +1,13 @@
--- `demands::run_table` meets its contract, from the contracts of Compile and Run. Assumes nothing.
+-- `clients::run_table` meets its contract, from the contracts of Compile and Run. Assumes nothing.
 use Prim.Native.Nat.{_≤_}
 use mathlib.Core.Path.{refl, sym}
 use lib.ListN.{length}
 use lib.Seq.{length-take-le}
 use borrow.Author.Needs.{needs}
 use Rattle.image.specs.Run.{ran}
-use Rattle.demands.specs.Laws.Clients.{front-inside, run-gives, run-refused}
-use Rattle.demands.proofs.run_table.Statement.{statement}
-use Rattle.demands.proofs.run_table.Tie as tie
+use Rattle.clients.specs.Laws.Clients.{front-inside, run-gives, run-refused}
+use Rattle.clients.proofs.run_table.Statement.{statement}
+use Rattle.clients.proofs.run_table.Tie as tie
 
 compile-requires : tie.Need-compile-requires
 compile-requires c κs = search needs

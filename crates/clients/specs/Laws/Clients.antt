@@ -19,7 +19,7 @@ use Rattle.cascade.specs.Theorems.{compiled-runs, compiled-expands, compiled-bi
 use Rattle.cascade.specs.Laws.Admitting.{compile-admits, report-admits}
 use Rattle.cascade.specs.declared.Compiled.{Compiled}
 use Rattle.cascade.specs.declared.Outcome.the-variants.{Image, Refused}
-use Rattle.demands.specs.Clients.{runTable, RunsTable, expandTable, ExpandsTable}
+use Rattle.clients.specs.Clients.{runTable, RunsTable, expandTable, ExpandsTable}
 
 module _ (n : ℕ) (table : List ℤ) (limit : ℕ) (buffer : List ℕ) (r : Report) (compiled : compileAnswer n table limit (length buffer) ≡ accepted r) where
   -- The compiled image lies within the buffer.

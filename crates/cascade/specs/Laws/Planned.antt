@@ -1,0 +1,87 @@
+-- From Plan's promise to its planned cells.
+use Prim.Native.Nat.{ℕ, _+_, _≤_}
+use mathlib.Core.Path.{_≡_, refl, sym, _∙_, ap, ap₂}
+use mathlib.Core.List.{List, [], _∷_, map}
+use native.Mathlib.Omega.{arith}
+use lib.ListN.{length, take, length-map}
+use lib.IntN.{ℤ}
+use Rattle.numbers.specs.Answers.{Answer, accepted, refused, mapAnswer}
+use Rattle.numbers.specs.Ranges.{mostVariables}
+use Rattle.numbers.specs.Laws.Padding.{length-padded, take-padded}
+use Rattle.diagram.specs.Accepted.{Accepted}
+use Rattle.cascade.specs.Cascade.{cellOf, cellsFrom}
+use Rattle.cascade.specs.Groupings.{cost}
+use Rattle.cascade.specs.Plan.{plan, planCell, noCell, entries, cellArray, Totals, totals, planAnswer, judgement, Plans}
+use Rattle.cascade.specs.Inner.Planned.{groups, PlannedAs, Chosen}
+use Rattle.cascade.specs.declared.Cell.{Cell}
+use Rattle.cascade.specs.declared.Planned.{Planned}
+use Rattle.cascade.specs.declared.Verdict.the-variants.{Grouping, Refused}
+use Rattle.cascade.specs.Laws.Admitting.{never-both, plan-admits}
+use Rattle.cascade.specs.Laws.Cards.{cells-count}
+use Rattle.cascade.specs.Laws.Cells.{variables-most}
+use Rattle.cascade.specs.Laws.Chosen.{chosen-best}
+use Rattle.cascade.specs.Laws.Groupings.{grouping-length}
+
+-- The sizes of a list of cells.
+pub groups-back : (n : ℕ) (table : List ℤ) (h : ℕ) (sizes : List ℕ) → map (λ cell. cell .group) (map planCell (cellsFrom n table h sizes)) ≡ sizes
+unfolding planCell cellsFrom cellOf
+groups-back n table h [] = refl
+groups-back n table h (g ∷ sizes) = ap (λ rest. g ∷ rest) (groups-back n table (h + g) sizes)
+
+module _ {n : ℕ} {table : List ℤ} {sizes : List ℕ} {cells : List Cell} {count bits : ℕ} (a : Accepted n table) (p : PlannedAs n table sizes cells count bits) where
+  -- There are at most as many as variables, in an array of 12.
+  pub few : count ≤ 12
+  few = let g = grouping-length n sizes (p .grouping) in let m = variables-most n table a in let c = p .counted in omega arith
+
+  pub places : length cells ≡ 12
+  unfolding mostVariables
+  places = ap length (p .listed) ∙ length-padded noCell 12 (map planCell (cellsFrom n table 0 sizes)) (let c = length-map (cellsFrom n table 0 sizes) planCell ∙ cells-count n table 0 sizes in let f = few in let d = p .counted in omega arith)
+
+  -- The first cells are the grouping's.
+  pub front : take count cells ≡ map planCell (cellsFrom n table 0 sizes)
+  front =
+      ap₂ take (p .counted ∙ sym (length-map (cellsFrom n table 0 sizes) planCell ∙ cells-count n table 0 sizes)) (p .listed)
+      ∙ take-padded noCell mostVariables (map planCell (cellsFrom n table 0 sizes))
+
+  pub groups-are : groups cells count ≡ sizes
+  unfolding groups
+  groups-are = ap (map (λ cell. cell .group)) front ∙ groups-back n table 0 sizes
+
+-- ---- from Plan's promise
+
+module _ (n : ℕ) (table : List ℤ) (limit : ℕ) (p : Planned) (plans : Plans n table limit p) where
+  -- Plan's refusal is the number of its verdict.
+  pub plan-refused : (k : ℕ) → p .verdict ≡ Refused k → plan n table limit ≡ refused k
+  unfolding judgement planAnswer
+  plan-refused k e = unmapped (plan n table limit) (sym (sym (ap judgement e) ∙ plans .judged))
+    where
+      unmapped : (answer : Answer (List ℕ)) → mapAnswer (totals n table) answer ≡ refused k → answer ≡ refused k
+      unmapped (accepted sizes) f = cc
+      unmapped (refused j) f = cc
+
+  module _ (count bits : ℕ) (grouped : p .verdict ≡ Grouping count bits) where
+    -- A verdict with a grouping: its cells are those of Plan's sizes.
+    pub plan-chosen : Chosen n table limit (p .cells) count bits
+    unfolding judgement planAnswer totals cellArray entries cost
+    plan-chosen = either (plan n table limit) refl
+      where
+        either : (answer : Answer (List ℕ)) → plan n table limit ≡ answer → Chosen n table limit (p .cells) count bits
+        either (accepted sizes) f =
+            let same : accepted (record { cells = count; bits = bits }) ≡ accepted (totals n table sizes) = sym (ap judgement grouped) ∙ plans .judged ∙ ap (mapAnswer (totals n table)) f in
+            record {
+              sizes = sizes;
+              chosen = f;
+              planned = record {
+                grouping = chosen-best n table limit sizes (plan-admits n table limit sizes f .1 .1) .grouping;
+                listed = plans .priced ∙ ap (cellArray n table) f;
+                counted = ap (λ (a : Answer Totals). elim a [ accepted t ↦ t .cells | refused k ↦ 0 ]) same;
+                total = ap (λ (a : Answer Totals). elim a [ accepted t ↦ t .bits | refused k ↦ 0 ]) same;
+              };
+            }
+        either (refused k) f = absurd (never-both (record { cells = count; bits = bits }) k (sym (sym (ap judgement grouped) ∙ plans .judged ∙ ap (mapAnswer (totals n table)) f)))
+
+    pub plan-accepts : Accepted n table
+    plan-accepts = plan-admits n table limit (plan-chosen .sizes) (plan-chosen .chosen) .0
+
+    pub planned-groups : plan n table limit ≡ accepted (groups (p .cells) count)
+    planned-groups = plan-chosen .chosen ∙ ap accepted (sym (groups-are plan-accepts (plan-chosen .planned)))

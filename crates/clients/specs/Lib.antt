@@ -1,0 +1,3 @@
+-- What the clients promise, and Laws of it.
+pub mod Clients
+pub mod Laws

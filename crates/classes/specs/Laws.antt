@@ -4,4 +4,3 @@ pub mod Classing
 pub mod Cut
 pub mod CutRows
 pub mod Halves
-pub mod Searching

@@ -2,38 +2,8 @@
 ghost use mathlib.Core.Path.{_≡_};
 ghost use Prim.Native.Nat.{suc, _+_, _*_, _≤_, _<_};
 ghost use lib.ListN.{length};
-ghost use Rattle.blocks.specs.Blocks.{differences};
-ghost use Rattle.blocks.specs.Classes.{same, numberIn};
-ghost use Rattle.blocks.specs.Inner.Layout.{part, CutsRoom, AllClassed};
-ghost use Rattle.classes.specs.Inner.Classing.{partDifferences, PartsWithin, cutRows, BlockRoom, blockClassed, HalvesRoom, halvesClassed, CutRoom, CutClassed, CutPlaced, countNoted, firstsNoted};
-
-// Whether part j of a table has the differences of these values.
-fn same_part(table: &[i32], size: usize, j: usize, values: &[i32]) -> bool
-    requires { ⌜ j * size + size ≤ length (now table) ⌝ }
-    ensures { λ r. ⌜ r ≡ same (differences (part (now (table .entry)) size j)) (differences (now (values .entry))) ⌝ }
-{
-    let start = j * size;
-    let end = start + size;
-    blocks::same_differences(&table[start..end], values)
-}
-
-// The class of a block among the known ones, each given by its first block; where none is equal, the next new number.
-fn find_class(table: &[i32], size: usize, firsts: &[usize], values: &[i32]) -> usize
-    requires { ⌜ PartsWithin (now table) size (now firsts) ⌝ }
-    ensures { λ r. ⌜ r ≡ numberIn (partDifferences (now (table .entry)) size (now (firsts .entry))) (differences (now (values .entry))) ⌝ }
-{
-    let mut k = 0;
-    let class = loop {
-        if k == firsts.len() {
-            break firsts.len();
-        }
-        if same_part(table, size, firsts[k], values) {
-            break k;
-        }
-        k += 1;
-    };
-    class
-}
+ghost use Rattle.blocks.specs.Inner.Layout.{CutsRoom, AllClassed};
+ghost use Rattle.classes.specs.Inner.Classing.{cutRows, BlockRoom, blockClassed, HalvesRoom, halvesClassed, CutRoom, CutClassed, CutPlaced, countNoted, firstsNoted};
 
 // The first block of a new class is noted behind those known, in a row of one place for each block so far.
 fn note_first(firsts: &mut [usize], count: usize, j: usize, class: usize) -> usize
@@ -61,7 +31,7 @@ fn class_block(
     requires { ⌜ BlockRoom (now table) size j count (now classes) (now firsts) ⌝ }
     ensures { λ r. ⌜ cutRows r (now (classes .exit)) (now (firsts .exit)) ≡ blockClassed (now (table .entry)) size j (now (values .entry)) (cutRows count (now (classes .entry)) (now (firsts .entry))) ⌝ }
 {
-    let class = find_class(table, size, &firsts[..count], values);
+    let class = search::find_class(table, size, &firsts[..count], values);
     let known = note_first(firsts, count, j, class);
     classes[j] = class;
     known

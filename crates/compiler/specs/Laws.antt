@@ -1,4 +1,2 @@
 -- Laws about the definitions of this crate, which proofs cite.
-pub mod Compiles
-pub mod Planned
 pub mod Ready

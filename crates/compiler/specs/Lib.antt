@@ -1,3 +1,2 @@
--- What Compile answers is defined in cascade. Inner has what inner functions promise and hold, Laws what is proved of it.
-pub mod Inner
+-- Compile's answer is defined in cascade. Laws has what is proved of what Plan leaves.
 pub mod Laws

@@ -1,5 +1,4 @@
 // Compile: the image of the least-cost grouping of a table, written into a lent buffer.
-mod placing;
 
 ghost use Rattle.cascade.specs.Compile.{Compiles};
 use cascade::Compiled;

@@ -30,7 +30,7 @@ fn block_branches(table: &[i32], i: usize, j: usize) -> bool
     let size = numbers::power(i + 1);
     let start = j * size;
     let end = start + size;
-    !blocks::same_halves(&table[start..end])
+    !comparing::same_halves(&table[start..end])
 }
 
 // Whether class c of cut h branches, seen at its first block.

@@ -18,7 +18,7 @@ pub fn plan_in(
     ensures { λ r. ⌜ Plans n (now (table .entry)) limit r ⌝ }
     ensures { λ r. ⌜ RowsLeft n (now (table .entry)) limit (now (classes .entry)) (now (firsts .entry)) (now (counts .entry)) (now (classes .exit)) (now (firsts .exit)) (now (counts .exit)) ⌝ }
 {
-    match diagram::tables::check_table(n, table) {
+    match tables::check_table(n, table) {
         diagram::Checked::Refused(number) => planning::refused_plan(number),
         diagram::Checked::Passed => {
             if !numbers::is_limit(limit) {

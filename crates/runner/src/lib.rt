@@ -1,5 +1,4 @@
 // Run and Expand: an image is read whole, then evaluated by its words in place.
-mod evaluation;
 
 ghost use mathlib.Core.Path.{_≡_};
 ghost use Prim.Native.Nat.{_<_};

@@ -1,5 +1,4 @@
 // Walk: the check of a record list, and its value at X.
-mod lists;
 mod walking;
 
 ghost use mathlib.Core.Path.{_≡_};

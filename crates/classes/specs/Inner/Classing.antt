@@ -2,23 +2,16 @@
 use Prim.Native.Nat.{ℕ, _+_, _*_, _/_, _≤_, _<_}
 use mathlib.Core.Path.{_≡_}
 use mathlib.Core.Bool.{cond}
-use mathlib.Core.List.{List, map}
-use lib.ListN.{length, getD, take, drop, set}
+use mathlib.Core.List.{List}
+use lib.ListN.{length, take, drop, set}
 use lib.Dec.{eqb}
 use lib.IntN.{ℤ}
 use Rattle.numbers.specs.Lists.{numbersFrom}
 use Rattle.numbers.specs.Inner.Rows.{overwritten}
 use Rattle.blocks.specs.Blocks.{differences}
 use Rattle.blocks.specs.Classes.{numberIn, distinct, classCount}
-use Rattle.blocks.specs.Inner.Layout.{part, numbersOf, firstsOf, cutNumbers, cutFirsts, cutPlace}
-
--- The differences of parts, given by their numbers.
-unfoldable pub partDifferences : List ℤ → ℕ → List ℕ → List (List ℤ)
-partDifferences table size parts = map (λ j. differences (part table size j)) parts
-
--- Each of these parts lies within the table.
-pub record PartsWithin (table : List ℤ) (size : ℕ) (parts : List ℕ) : Type 0 where
-  pub inside : (k : ℕ) → k < length parts → getD parts k 0 * size + size ≤ length table
+use Rattle.search.specs.Inner.Searching.{partDifferences, PartsWithin}
+use Rattle.blocks.specs.Inner.Layout.{numbersOf, firstsOf, cutNumbers, cutFirsts, cutPlace}
 
 -- The known classes after a block of this class, which is new where it is their count.
 unfoldable pub countNoted : ℕ → ℕ → ℕ

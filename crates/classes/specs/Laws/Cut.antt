@@ -15,9 +15,10 @@ use Rattle.numbers.specs.Laws.Lists.{length-range, getD-range, getD-map}
 use Rattle.blocks.specs.Blocks.{differences}
 use Rattle.blocks.specs.Classes.{numberIn, distinct}
 use Rattle.blocks.specs.Inner.Layout.{part, firstsOf}
-use Rattle.classes.specs.Inner.Classing.{partDifferences, CutRows, cutRows, BlockRoom, knownClass, blockClassed, CutRoom, CutClassed, countNoted, firstsNoted}
+use Rattle.classes.specs.Inner.Classing.{CutRows, cutRows, BlockRoom, knownClass, blockClassed, CutRoom, CutClassed, countNoted, firstsNoted}
+use Rattle.search.specs.Inner.Searching.{partDifferences}
 use Rattle.blocks.specs.Laws.Known.{number-at, number-by, Among, distinct-seen}
-use Rattle.classes.specs.Laws.Searching.{length-parts, part-at}
+use Rattle.search.specs.Laws.Searching.{length-parts, part-at}
 use Rattle.classes.specs.Laws.Classing.{Classed, none-classed, before-length, classed-next, known-places, all-classed}
 
 -- The differences of all blocks of a cut.

@@ -13,7 +13,8 @@ use lib.IntN.{ℤ}
 use Rattle.numbers.specs.Laws.Bools.{yes-or-no}
 use Rattle.numbers.specs.Laws.Lists.{drop-take}
 use Rattle.blocks.specs.Inner.Layout.{part}
-use Rattle.classes.specs.Inner.Classing.{PartsWithin, countNoted, firstsNoted, CutRows, knownClass, blockClassed, halvesClassed, BlockRoom, HalvesRoom}
+use Rattle.classes.specs.Inner.Classing.{countNoted, firstsNoted, CutRows, knownClass, blockClassed, halvesClassed, BlockRoom, HalvesRoom}
+use Rattle.search.specs.Inner.Searching.{PartsWithin}
 use Rattle.classes.specs.Laws.Cut.{CutSoFar, length-noted, cut-block-room, cut-next}
 
 -- ---- the halves are blocks of the cut

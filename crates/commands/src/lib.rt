@@ -5,7 +5,6 @@ ghost use lib.ListN.{length};
 ghost use Rattle.numbers.specs.Inner.Rows.{overwritten};
 ghost use Rattle.image.specs.Commands.{commandBytes};
 ghost use Rattle.image.specs.declared.Command.the-variants as commands;
-use operands::writing;
 
 // The table command, in front.
 pub fn write_table(buffer: &mut [u8], n: usize, offset: i32)
@@ -14,7 +13,7 @@ pub fn write_table(buffer: &mut [u8], n: usize, offset: i32)
 {
     buffer[0] = 0x56;
     buffer[1] = n as u8;
-    writing::write_signed(buffer, 2, offset);
+    operand_writer::write_signed(buffer, 2, offset);
 }
 
 // A cell's own command, in front.
@@ -24,8 +23,8 @@ pub fn write_head(buffer: &mut [u8], group: usize, incoming: usize, outgoing: us
 {
     buffer[0] = 0x43;
     buffer[1] = group as u8;
-    writing::write_two(buffer, 2, incoming);
-    writing::write_two(buffer, 4, outgoing);
+    operand_writer::write_two(buffer, 2, incoming);
+    operand_writer::write_two(buffer, 4, outgoing);
     buffer[6] = width as u8;
 }
 
@@ -35,8 +34,8 @@ pub fn write_word(buffer: &mut [u8], at: usize, class: usize, weight: i32)
     ensures { λ _. ⌜ now (buffer .exit) ≡ overwritten (now (buffer .entry)) at (commandBytes (commands.Word class weight)) ⌝ }
 {
     buffer[at] = 0x57;
-    writing::write_two(buffer, at + 1, class);
-    writing::write_signed(buffer, at + 3, weight);
+    operand_writer::write_two(buffer, at + 1, class);
+    operand_writer::write_signed(buffer, at + 3, weight);
 }
 
 // The last command, at a place.
@@ -45,5 +44,5 @@ pub fn write_end(buffer: &mut [u8], at: usize, bits: usize)
     ensures { λ _. ⌜ now (buffer .exit) ≡ overwritten (now (buffer .entry)) at (commandBytes (commands.End bits)) ⌝ }
 {
     buffer[at] = 0x45;
-    writing::write_four(buffer, at + 1, bits);
+    operand_writer::write_four(buffer, at + 1, bits);
 }

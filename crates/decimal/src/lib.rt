@@ -1,6 +1,4 @@
 // A table as people write it, in decimal text: what a text gives, its words and their numbers.
-mod numerals;
-pub mod words;
 
 // What was expected where a text goes wrong.
 pub enum Expected {

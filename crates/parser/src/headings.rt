@@ -6,7 +6,6 @@ ghost use Rattle.decimal.specs.Inner.Items.{headingAt};
 use decimal::Heading;
 use decimal::Item;
 use decimal::Place;
-use decimal::words;
 
 // The next word, where it is a number in this range on the first line.
 pub(crate) fn heading(text: &[u8], at: usize, low: i32, high: i32) -> Heading

@@ -12,7 +12,6 @@ use decimal::Checked;
 use decimal::Expected;
 use decimal::Item;
 use decimal::Place;
-use decimal::words;
 
 // That no word is left from a place on.
 fn check_end(text: &[u8], place: Place) -> Checked
@@ -69,7 +68,7 @@ fn write_values(input: &mut [u8], values: &[i32])
 {
     let mut j = 0;
     while j < values.len() {
-        operands::writing::write_signed(input, 2 + 4 * j, values[j]);
+        operand_writer::write_signed(input, 2 + 4 * j, values[j]);
         j += 1;
     }
 }

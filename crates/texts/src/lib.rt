@@ -13,7 +13,7 @@ pub fn write_refusal(text: &mut [u8], number: u8) -> usize
     requires { ⌜ length (line "refused" (pos number ∷ [])) ≤ length (now text) ⌝ }
     ensures { λ r. ⌜ Writes (now (text .entry)) 0 (line "refused" (pos number ∷ [])) r (now (text .exit)) ⌝ }
 {
-    lines::write_count(text, 0, b"refused", number as usize)
+    fields::write_count(text, 0, b"refused", number as usize)
 }
 
 // The line of record k at a place. Answers the place behind it.
@@ -30,7 +30,7 @@ fn write_node(text: &mut [u8], at: usize, k: usize, nodes: &[i32]) -> usize
         nodes[place + 2],
         nodes[place + 3],
     ];
-    lines::write_line(text, at, b"node", &numbers)
+    fields::write_line(text, at, b"node", &numbers)
 }
 
 // The line of a cell at a place. Answers the place behind it.
@@ -46,7 +46,7 @@ fn write_cell(text: &mut [u8], at: usize, cell: Cell) -> usize
         cell.width as i32,
         cell.bits as i32,
     ];
-    lines::write_line(text, at, b"cell", &numbers)
+    fields::write_line(text, at, b"cell", &numbers)
 }
 
 // The lines of the first so many records at a place, by rising number. Answers the place behind them.
@@ -87,9 +87,9 @@ pub fn write_diagram(text: &mut [u8], n: usize, offset: i32, nodes: &[i32], coun
     ensures { λ r. ⌜ Writes (now (text .entry)) 0 (diagramText n offset (now (nodes .entry)) count) r (now (text .exit)) ⌝ }
 {
     let numbers = [n as i32, offset];
-    let first = lines::write_line(text, 0, b"table", &numbers);
+    let first = fields::write_line(text, 0, b"table", &numbers);
     let next = write_nodes(text, first, nodes, count);
-    lines::write_count(text, next, b"nodes", count + 1)
+    fields::write_count(text, next, b"nodes", count + 1)
 }
 
 // The cell lines and the total bits at a place. Answers the place behind them.
@@ -105,5 +105,5 @@ pub fn write_cascade(
     ensures { λ r. ⌜ Writes (now (text .entry)) at (cascadeText cells count bits) r (now (text .exit)) ⌝ }
 {
     let next = write_cells(text, at, cells, count);
-    lines::write_count(text, next, b"bits", bits)
+    fields::write_count(text, next, b"bits", bits)
 }

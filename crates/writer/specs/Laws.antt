@@ -1,4 +1,3 @@
 -- Laws about the definitions of this crate, which proofs cite.
 pub mod Cells
 pub mod Images
-pub mod Words

@@ -1,40 +1,16 @@
 // The image of a table's planned cells, written into a lent buffer.
 
 ghost use mathlib.Core.Path.{_≡_};
-ghost use Prim.Native.Nat.{_+_, _*_, _^_, _≤_};
+ghost use Prim.Native.Nat.{_+_, _*_, _≤_};
 ghost use lib.ListN.{length};
 ghost use Rattle.numbers.specs.Inner.Rows.{overwritten};
 ghost use Rattle.cascade.specs.Cascade.{cellOf};
 ghost use Rattle.cascade.specs.Compile.{imageFor};
 ghost use Rattle.cascade.specs.Groupings.{cost};
 ghost use Rattle.cascade.specs.Inner.Planned.{groups};
-ghost use Rattle.writer.specs.Inner.Writing.{wordBytes, cellBytes, cellsBytes, RowsKnown, CellPlanned, CellsPlanned};
+ghost use Rattle.word_writer.specs.Inner.Writing.{RowsKnown, CellPlanned};
+ghost use Rattle.writer.specs.Inner.Writing.{cellBytes, cellsBytes, CellsPlanned};
 use cascade::Cell;
-
-// The words of a cell from cut h, behind its command, in the tail that is left of the image.
-fn write_words(
-    n: usize,
-    h: usize,
-    cell: Cell,
-    table: &[i32],
-    classes: &[usize],
-    firsts: &[usize],
-    tail: &mut [u8],
-)
-    requires { ⌜ RowsKnown n (now table) (now classes) (now firsts) × CellPlanned n h (now table) cell ⌝ }
-    requires { ⌜ 7 + 7 * (cell .incoming * 2 ^ cell .group) ≤ length (now tail) ⌝ }
-    ensures { λ _. ⌜ now (tail .exit) ≡ overwritten (now (tail .entry)) 7 (wordBytes (cellOf n (now (table .entry)) h (cell .group) .words)) ⌝ }
-{
-    let count = cell.incoming * (1 << cell.group);
-    let group = cell.group;
-    let mut k = 0;
-    while k < count {
-        let class = cascade::words::word_class(n, h, group, k, table, classes, firsts);
-        let weight = cascade::words::word_weight(n, h, group, k, table, firsts);
-        commands::write_word(tail, 7 + 7 * k, class, weight);
-        k += 1;
-    }
-}
 
 // A cell from cut h, written into the tail that is left of the image: its command, then its words. Answers its length.
 fn write_cell(
@@ -51,7 +27,7 @@ fn write_cell(
     ensures { λ r. ⌜ (r ≡ length (cellBytes (cellOf n (now (table .entry)) h (cell .group)))) × (now (tail .exit) ≡ overwritten (now (tail .entry)) 0 (cellBytes (cellOf n (now (table .entry)) h (cell .group)))) ⌝ }
 {
     commands::write_head(tail, cell.group, cell.incoming, cell.outgoing, cell.width);
-    write_words(n, h, cell, table, classes, firsts, tail);
+    word_writer::write_words(n, h, cell, table, classes, firsts, tail);
     7 + 7 * (cell.incoming * (1 << cell.group))
 }
 

@@ -6,7 +6,7 @@ use lib.ListN.{length}
 use mir.Facts.{fits-of-lt}
 use borrow.Author.Needs.{needs}
 use Rattle.writer.specs.Laws.Cells.{planned-length, cell-written}
-use Rattle.writer.specs.Laws.Words.{group-most, width-most, words-most, count-is}
+use Rattle.word_writer.specs.Laws.Words.{group-most, width-most, words-most, count-is}
 use Rattle.writer.proofs.write_cell.Statement.{statement}
 use Rattle.writer.proofs.write_cell.Tie as tie
 

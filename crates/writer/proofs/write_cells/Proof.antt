@@ -7,7 +7,7 @@ use mir.Facts.{fits-of-lt}
 use Rattle.cascade.specs.Laws.Cells.{variables-most}
 use Rattle.cascade.specs.declared.Cell.{Cell as PlanCell}
 use Rattle.cascade.specs.Inner.Planned.{groups}
-use Rattle.writer.specs.Inner.Writing.{CellPlanned}
+use Rattle.word_writer.specs.Inner.Writing.{CellPlanned}
 use Rattle.writer.specs.Laws.Cells.{CellsWritten, count-most, inside, size-is, next-planned, no-cells, cell-room, next-cell, cells-kept, all-cells, groups-count}
 use Rattle.writer.proofs.write_cells.Statement.{statement}
 use Rattle.writer.proofs.write_cells.Tie as tie

@@ -27,9 +27,10 @@ use Rattle.cascade.specs.Laws.Lengths.{cell-length}
 use Rattle.cascade.specs.Plan.{planCell}
 use Rattle.cascade.specs.declared.Cell.{Cell as PlanCell}
 use Rattle.cascade.specs.Inner.Planned.{groups}
-use Rattle.writer.specs.Inner.Writing.{wordBytes, cellBytes, cellsBytes, CellPlanned, CellsPlanned}
+use Rattle.word_writer.specs.Inner.Writing.{wordBytes, CellPlanned}
+use Rattle.writer.specs.Inner.Writing.{cellBytes, cellsBytes, CellsPlanned}
 use Rattle.numbers.specs.Laws.Written.{written-behind, length-kept}
-use Rattle.writer.specs.Laws.Words.{incoming-is, outgoing-is, width-is, words-are}
+use Rattle.word_writer.specs.Laws.Words.{incoming-is, outgoing-is, width-is, words-are}
 
 -- ---- one cell
 

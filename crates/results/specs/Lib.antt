@@ -1,5 +1,3 @@
--- What the C interface answers: results, and what it leaves behind references and in lent buffers.
-pub mod Classing
-pub mod Plans
+-- How an answer comes back through C.
 pub mod Laws
 pub mod Results

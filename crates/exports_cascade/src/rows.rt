@@ -1,0 +1,24 @@
+// Cells as rows of numbers.
+ghost use mathlib.Core.Path.{_≡_};
+ghost use mathlib.Core.List.{flatMap};
+ghost use Rattle.exports_cascade.specs.Given.{cellRow};
+use cascade::Cell;
+
+// Five numbers for each cell: group, incoming count, outgoing count, weight width, bits.
+pub(crate) fn cell_rows(cells: [Cell; 12]) -> [usize; 60]
+    ensures { λ r. ⌜ r ≡ flatMap cellRow cells ⌝ }
+{
+    let mut rows = [0usize; 60];
+    let mut k = 0;
+    while k < 12 {
+        let cell = cells[k];
+        let at = 5 * k;
+        rows[at] = cell.group;
+        rows[at + 1] = cell.incoming;
+        rows[at + 2] = cell.outgoing;
+        rows[at + 3] = cell.width;
+        rows[at + 4] = cell.bits;
+        k += 1;
+    }
+    rows
+}

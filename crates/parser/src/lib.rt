@@ -1,6 +1,4 @@
 // From the bytes of a table in decimal text to the bytes of the listing's input.
-mod headings;
-mod values;
 
 ghost use Rattle.decimal.specs.Table.{Reads};
 ghost use Rattle.decimal.specs.Inner.Values.{bodyAt, Answers, BodyReady};

@@ -15,7 +15,7 @@ use Rattle.numbers.specs.Laws.Overwriting.{take-overwritten, length-overwritten
 use Rattle.numbers.specs.Laws.Selections.{flatMap-append}
 use Rattle.blocks.specs.Classes.{classCount}
 use Rattle.blocks.specs.Inner.Layout.{cutNumbers, cutFirsts, allNumbers, allFirsts, allCounts, cutPlace, CutsRoom, AllClassed}
-use Rattle.classes.specs.Inner.Classing.{CutPlaced}
+use Rattle.classes.specs.Inner.Placing.{CutPlaced}
 use Rattle.blocks.specs.Laws.Cuts.{length-cut-numbers, length-cut-firsts, cut-end, cut-within}
 
 -- The rows while the cuts before h are classed.

@@ -17,7 +17,8 @@ use Rattle.blocks.specs.Blocks.{block, blocks, differences}
 use Rattle.blocks.specs.Classes.{distinct, classes, classCount}
 use Rattle.blocks.specs.Inner.Layout.{part, numbersOf, firstsOf, cutNumbers, cutFirsts, cutPlace, CutsRoom}
 use Rattle.blocks.specs.Laws.Cuts.{length-cut-numbers, length-cut-firsts, cut-within, cut-whole}
-use Rattle.classes.specs.Inner.Classing.{CutPlaced, CutRoom, CutClassed}
+use Rattle.cuts.specs.Inner.Classing.{CutRoom, CutClassed}
+use Rattle.classes.specs.Inner.Placing.{CutPlaced}
 use Rattle.search.specs.Inner.Searching.{partDifferences}
 
 module _ (n h : ℕ) (cut : h ≤ n) where

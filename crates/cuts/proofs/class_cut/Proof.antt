@@ -1,0 +1,47 @@
+-- `cuts::class_cut` meets its contract: the one block of cut 0 is the table. Assumes nothing.
+use Rattle.cuts.specs.Inner.Classing.{cutRows}
+use Rattle.cuts.specs.Laws.Cut.{one-block}
+use borrow.Author.Needs.{needs}
+use Rattle.cuts.proofs.class_cut.Statement.{statement}
+use Rattle.cuts.proofs.class_cut.Tie as tie
+
+class-block-requires : tie.Need-class-block-requires
+class-block-requires c κs = search needs
+
+same-length : tie.Need-same-length
+same-length c = search needs
+
+same-length-2 : tie.Need-same-length-2
+same-length-2 c = search needs
+
+returns : tie.Need-returns
+returns c =
+    let s = c .before .before .before .before .before .before .before .before .before .before in
+    let k = c .before .before .before .before .class-block in
+    one-block (s .args .table .now) (s .args .size) (s .args .classes .now) (s .args .firsts .now) (s .pre) (c .before .before .before .before .before .before .before .if1 .taken)
+    (cutRows (k .result) (k .last .1 .1 .1 .1 .1 .0) (k .last .1 .1 .1 .1 .1 .1 .0)) (k .ensures)
+
+class-cut-below-requires : tie.Need-class-cut-below-requires
+class-cut-below-requires c κs = search needs
+
+same-length-3 : tie.Need-same-length-3
+same-length-3 c = search needs
+
+same-length-4 : tie.Need-same-length-4
+same-length-4 c = search needs
+
+returns-2 : tie.Need-returns-2
+returns-2 c = search needs
+
+pub class-cut-spec : {M : Type 1} → statement M
+class-cut-spec =
+    tie.close
+    (tie.spec
+    class-block-requires
+    same-length
+    same-length-2
+    returns
+    class-cut-below-requires
+    same-length-3
+    same-length-4
+    returns-2)

@@ -1,0 +1,77 @@
+-- `cuts::class_halves` meets its contract: the upper half is all from the middle on. Assumes nothing.
+use Prim.Native.Nat.{_+_, _-_, _*_, _/_}
+use mathlib.Core.Path.{sym, _∙_, ap₂}
+use native.Mathlib.Omega.{arith}
+use lib.ListN.{length, take, drop, length-drop}
+use lib.Seq.{length-take-le, take-all}
+use Rattle.cuts.specs.Inner.Classing.{cutRows, blockClassed, halvesClassed}
+use Rattle.cuts.specs.Laws.Halves.{upper-room}
+use borrow.Author.Needs.{needs}
+use Rattle.cuts.proofs.class_halves.Statement.{statement}
+use Rattle.cuts.proofs.class_halves.Tie as tie
+
+slice-aggregate-lower : tie.Need-slice-aggregate-lower
+slice-aggregate-lower c = let l = c .before .before .before .args .above .now in sym (length-take-le (length l / 2) l (omega arith))
+
+mul-upper : tie.Need-mul-upper
+mul-upper c = search needs
+
+sub-upper : tie.Need-sub-upper
+sub-upper c = search needs
+
+part-upper-start : tie.Need-part-upper-start
+part-upper-start c = search needs
+
+part-upper-end : tie.Need-part-upper-end
+part-upper-end c = search needs
+
+mul-class-block : tie.Need-mul-class-block
+mul-class-block c = search needs
+
+class-block-requires : tie.Need-class-block-requires
+class-block-requires c κs = search needs
+
+mul-class-block-2 : tie.Need-mul-class-block-2
+mul-class-block-2 c = search needs
+
+add-class-block : tie.Need-add-class-block
+add-class-block c = search needs
+
+class-block-requires-2 : tie.Need-class-block-requires-2
+class-block-requires-2 c κs =
+    let s = c .before .before .before .before .before .before .before .before .before .before .before .before .before in
+    let k = c .before .before .before .before .before .before .class-block in
+    upper-room (s .args .table .now) (s .args .size) (s .args .j) (cutRows (s .args .count) (s .args .classes .now) (s .args .firsts .now)) (s .pre) (take (length (s .args .above .now) / 2) (s .args .above .now))
+    (cutRows (k .result) (k .last .1 .1 .1 .1 .1 .0) (k .last .1 .1 .1 .1 .1 .1 .0)) (k .ensures)
+
+same-length : tie.Need-same-length
+same-length c = search needs
+
+same-length-2 : tie.Need-same-length-2
+same-length-2 c = search needs
+
+returns : tie.Need-returns
+unfolding halvesClassed
+returns c =
+    let a = c .before .before .before .before .before .before .before .before .before .before .before .before .before .before .before .before .before .before .args in
+    let l = a .above .now in
+    c .before .before .before .before .class-block2 .ensures
+    ∙ ap₂ (blockClassed (a .table .now) (a .size) (2 * a .j + 1)) (take-all (length l - length l / 2) (drop (length l / 2) l) (rw length-drop (omega arith))) (c .before .before .before .before .before .before .before .before .before .before .before .class-block .ensures)
+
+pub class-halves-spec : {M : Type 1} → statement M
+class-halves-spec =
+    tie.close
+    (tie.spec
+    slice-aggregate-lower
+    mul-upper
+    sub-upper
+    part-upper-start
+    part-upper-end
+    mul-class-block
+    class-block-requires
+    mul-class-block-2
+    add-class-block
+    class-block-requires-2
+    same-length
+    same-length-2
+    returns)

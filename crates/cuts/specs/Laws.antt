@@ -1,0 +1,4 @@
+-- Laws about the definitions of this crate, which proofs cite.
+pub mod Classing
+pub mod Cut
+pub mod Halves

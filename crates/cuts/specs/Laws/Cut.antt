@@ -1,0 +1,153 @@
+-- Classing the blocks of a cut: what the rows hold on the way, and that they are whole at the end.
+use Prim.Native.Nat.{ℕ, _+_, _*_, _≤_, _<_}
+use mathlib.Core.Path.{_≡_, refl, sym, _∙_, ap, ap₂, subst}
+use mathlib.Core.List.{List, [], map}
+use native.Mathlib.Nat.{zero-add, one-mul, zero-mul, suc-mul, mul-le-mul-right}
+use native.Mathlib.Numerals.{add-one}
+use native.Mathlib.Omega.{arith}
+use lib.ListN.{length, getD, take, drop, set, length-map, length-set}
+use lib.Seq.{ext-getD, getD-take, length-take-le, take-length}
+use lib.Dec.{eqb}
+use lib.IntN.{ℤ}
+use Rattle.numbers.specs.Laws.Bools.{yes-or-no}
+use Rattle.numbers.specs.Lists.{numbersFrom}
+use Rattle.numbers.specs.Laws.Lists.{length-range, getD-range, getD-map}
+use Rattle.blocks.specs.Blocks.{differences}
+use Rattle.blocks.specs.Classes.{numberIn, distinct}
+use Rattle.blocks.specs.Inner.Layout.{part, firstsOf}
+use Rattle.cuts.specs.Inner.Classing.{CutRows, cutRows, BlockRoom, knownClass, blockClassed, CutRoom, CutClassed, countNoted, firstsNoted}
+use Rattle.search.specs.Inner.Searching.{partDifferences}
+use Rattle.blocks.specs.Laws.Known.{number-at, number-by, Among, distinct-seen}
+use Rattle.search.specs.Laws.Searching.{length-parts, part-at}
+use Rattle.cuts.specs.Laws.Classing.{Classed, none-classed, before-length, classed-next, known-places, all-classed}
+
+-- The differences of all blocks of a cut.
+abbrev pub cutLists : List ℤ → ℕ → ℕ → List (List ℤ)
+cutLists table size count = partDifferences table size (numbersFrom 0 count)
+
+pub length-cut-lists : (table : List ℤ) (size count : ℕ) → length (cutLists table size count) ≡ count
+length-cut-lists table size count = length-parts table size (numbersFrom 0 count) ∙ length-range 0 count
+
+pub cut-list-at : (table : List ℤ) (size count j : ℕ) → j < count → getD (cutLists table size count) j [] ≡ differences (part table size j)
+cut-list-at table size count j h =
+    part-at table size (numbersFrom 0 count) j (rw length-range h)
+    ∙ ap (λ k. differences (part table size k)) (getD-range 0 count j 0 h ∙ zero-add j)
+
+-- The rows while j blocks are classed.
+pub record CutSoFar (table : List ℤ) (size count j : ℕ) (rows : CutRows) : Type 0 where
+  pub inside : j ≤ count
+  pub classPlaces : length (rows .classRow) ≡ count
+  pub firstPlaces : length (rows .firstRow) ≡ count
+  pub classed : Classed (cutLists table size count) j (rows .known) (rows .classRow) (rows .firstRow)
+
+pub length-noted : (firstRow : List ℕ) (known j class : ℕ) → length (firstsNoted firstRow known j class) ≡ length firstRow
+unfolding firstsNoted
+length-noted firstRow known j class =
+    yes-or-no (eqb class known)
+    (λ e. rw e (simp length-set))
+    (λ e. rw e (simp length-set))
+
+-- No block is classed yet.
+pub cut-start : (table : List ℤ) (size : ℕ) (classRow firstRow : List ℕ) → CutRoom table size classRow firstRow → CutSoFar table size (length classRow) 0 (cutRows 0 classRow firstRow)
+cut-start table size classRow firstRow room =
+    record { inside = omega arith; classPlaces = refl; firstPlaces = room .alike; classed = none-classed (cutLists table size (length classRow)) classRow firstRow }
+
+module _ {table : List ℤ} {size count j : ℕ} {rows : CutRows} (s : CutSoFar table size count j rows) (below : j < count) where
+  abbrev ds : List (List ℤ)
+  ds = cutLists table size count
+
+  abbrev firsts : List ℕ
+  firsts = take (rows .known) (rows .firstRow)
+
+  below-ds : j < length ds
+  below-ds = rw length-cut-lists below
+
+  -- No more classes are known than blocks were seen.
+  cut-few : rows .known ≤ j
+  cut-few = let k = s .classed .known in let b = before-length ds j below-ds in omega arith
+
+  places : firsts ≡ map (numberIn ds) (distinct (take j ds))
+  places = known-places ds j (rows .known) (rows .classRow) (rows .firstRow) (s .classed) cut-few
+
+  known-count : length (distinct (take j ds)) ≡ length firsts
+  known-count = sym (ap length places ∙ length-map (distinct (take j ds)) (numberIn ds))
+
+  -- Each known list stands at its first place.
+  known-at : (k : ℕ) → k < length (distinct (take j ds)) → (numberIn ds (getD (distinct (take j ds)) k []) < count) × (getD ds (numberIn ds (getD (distinct (take j ds)) k [])) [] ≡ getD (distinct (take j ds)) k [])
+  unfolding Among
+  known-at k h =
+      let a = distinct-seen (take j ds) k h in
+      let i = a .0 in
+      let d = getD (distinct (take j ds)) k [] in
+      let i-below : i < j = (let l = a .1 .0 in let t = length-take-le j ds (let b = below-ds in omega arith) in omega arith) in
+      let stands : getD ds i [] ≡ d = sym (getD-take j ds i [] i-below) ∙ a .1 .1 in
+      let early = number-by ds d i stands in
+      (omega arith, number-at ds d (rw length-cut-lists (omega arith)))
+
+  place-at : (k : ℕ) → k < length firsts → getD firsts k 0 ≡ numberIn ds (getD (distinct (take j ds)) k [])
+  place-at k h = ap (λ l. getD l k 0) places ∙ getD-map (numberIn ds) (distinct (take j ds)) k [] 0 (rw known-count h)
+
+  -- The known classes' first blocks lie within the table, and the next block has its place.
+  pub cut-block-room : length table ≡ count * size → BlockRoom table size j (rows .known) (rows .classRow) (rows .firstRow)
+  cut-block-room whole = record {
+    known = record {
+      inside = λ k h.
+          let p = known-at k (rw known-count h) .0 in
+          let m = mul-le-mul-right size p in
+          rw (place-at k h) (omega (arith, suc-mul (numberIn ds (getD (distinct (take j ds)) k [])) size));
+    };
+    few = cut-few;
+    inside = rw (s .classPlaces) below;
+    alike = s .firstPlaces ∙ sym (s .classPlaces);
+  }
+
+  -- The known classes are the different lists so far.
+  cut-known : partDifferences table size firsts ≡ distinct (take j ds)
+  cut-known =
+      ext-getD [] (partDifferences table size firsts) (distinct (take j ds))
+      (length-parts table size firsts ∙ sym known-count)
+      (λ k h.
+      let h′ : k < length firsts = rw length-parts at h in
+      let a = known-at k (rw known-count h′) in
+      part-at table size firsts k h′
+      ∙ ap (λ f. differences (part table size f)) (place-at k h′)
+      ∙ sym (cut-list-at table size count (numberIn ds (getD (distinct (take j ds)) k [])) (a .0))
+      ∙ a .1)
+
+  -- One block more.
+  pub cut-next : (values : List ℤ) → values ≡ part table size j → CutSoFar table size count (j + 1) (blockClassed table size j values rows)
+  unfolding blockClassed knownClass
+  cut-next values is =
+      let class = numberIn (partDifferences table size firsts) (differences values) in
+      record {
+        inside = omega arith;
+        classPlaces = length-set (rows .classRow) j class ∙ s .classPlaces;
+        firstPlaces = length-noted (rows .firstRow) (rows .known) j class ∙ s .firstPlaces;
+        classed =
+            subst (λ n. Classed ds n (countNoted (rows .known) class) (set (rows .classRow) j class) (firstsNoted (rows .firstRow) (rows .known) j class)) (sym (add-one j))
+            (classed-next ds j below-ds (rows .known) (rows .classRow) (rows .firstRow) class (s .classed)
+            (ap₂ numberIn cut-known (ap differences is ∙ sym (cut-list-at table size count j below)))
+            (rw (s .classPlaces) below) (rw (s .firstPlaces) below));
+      }
+
+pub cut-done : (table : List ℤ) (size count : ℕ) (rows : CutRows) → CutSoFar table size count count rows → CutClassed table size count (rows .known) (rows .classRow) (rows .firstRow)
+cut-done table size count rows s =
+    let ds = cutLists table size count in
+    let l = length-cut-lists table size count in
+    let a = all-classed ds (rows .known) (rows .classRow) (rows .firstRow) (s .classPlaces ∙ sym l) (s .firstPlaces ∙ sym l) (subst (λ n. Classed ds n (rows .known) (rows .classRow) (rows .firstRow)) (sym l) (s .classed)) in
+    record { counted = a .0; numbered = a .1 .0; placed = a .1 .1 ∙ ap (λ n. firstsOf n ds) l }
+
+-- A cut of one block, the table.
+pub one-block : (table : List ℤ) (size : ℕ) (classRow firstRow : List ℕ) → CutRoom table size classRow firstRow → length classRow ≡ 1 → (rows : CutRows) → rows ≡ blockClassed table size 0 table (cutRows 0 classRow firstRow) → CutClassed table size (length classRow) (rows .known) (rows .classRow) (rows .firstRow)
+unfolding part
+one-block table size classRow firstRow room one rows is =
+    cut-done table size (length classRow) rows
+    (subst (λ r. CutSoFar table size (length classRow) (length classRow) r) (sym is)
+    (subst (λ k. CutSoFar table size (length classRow) k (blockClassed table size 0 table (cutRows 0 classRow firstRow))) (sym one)
+    (cut-next (cut-start table size classRow firstRow room) (omega arith) table whole)))
+  where
+    whole : table ≡ take size (drop (0 * size) table)
+    whole =
+        sym (take-length table)
+        ∙ ap (λ n. take n table) (room .whole ∙ ap (λ n. n * size) one ∙ one-mul size)
+        ∙ ap (λ n. take size (drop n table)) (sym (zero-mul size))

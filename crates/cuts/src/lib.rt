@@ -1,0 +1,86 @@
+// The classes of one cut: the class of each block, one after the other, and the first block of each class.
+ghost use mathlib.Core.Path.{_≡_};
+ghost use Prim.Native.Nat.{_+_, _*_, _≤_, _<_};
+ghost use lib.ListN.{length};
+ghost use Rattle.cuts.specs.Inner.Classing.{cutRows, BlockRoom, blockClassed, HalvesRoom, halvesClassed, CutRoom, CutClassed, countNoted, firstsNoted};
+
+// The first block of a new class is noted behind those known, in a row of one place for each block so far.
+fn note_first(firsts: &mut [usize], count: usize, j: usize, class: usize) -> usize
+    requires { ⌜ (count ≤ j) × (j < length (now firsts)) ⌝ }
+    ensures { λ r. ⌜ (r ≡ countNoted count class) × (now (firsts .exit) ≡ firstsNoted (now (firsts .entry)) count j class) ⌝ }
+{
+    firsts[j] = 0;
+    if class == count {
+        firsts[count] = j;
+        return count + 1;
+    }
+    count
+}
+
+// A block is classed: its class is noted, and the block as the first of its class where that is new.
+fn class_block(
+    table: &[i32],
+    size: usize,
+    j: usize,
+    values: &[i32],
+    count: usize,
+    classes: &mut [usize],
+    firsts: &mut [usize],
+) -> usize
+    requires { ⌜ BlockRoom (now table) size j count (now classes) (now firsts) ⌝ }
+    ensures { λ r. ⌜ cutRows r (now (classes .exit)) (now (firsts .exit)) ≡ blockClassed (now (table .entry)) size j (now (values .entry)) (cutRows count (now (classes .entry)) (now (firsts .entry))) ⌝ }
+{
+    let class = search::find_class(table, size, &firsts[..count], values);
+    let known = note_first(firsts, count, j, class);
+    classes[j] = class;
+    known
+}
+
+// The halves of block j of the cut above are classed, the upper half being the part that begins in the block's middle.
+fn class_halves(
+    table: &[i32],
+    size: usize,
+    j: usize,
+    above: &[i32],
+    count: usize,
+    classes: &mut [usize],
+    firsts: &mut [usize],
+) -> usize
+    requires { ⌜ HalvesRoom (now table) size j count (now classes) (now firsts) ⌝ }
+    ensures { λ r. ⌜ cutRows r (now (classes .exit)) (now (firsts .exit)) ≡ halvesClassed (now (table .entry)) size j (now (above .entry)) (cutRows count (now (classes .entry)) (now (firsts .entry))) ⌝ }
+{
+    let middle = above.len() / 2;
+    let lower = &above[..middle];
+    let upper = &above[middle..];
+    let known = class_block(table, size, 2 * j, lower, count, classes, firsts);
+    class_block(table, size, 2 * j + 1, upper, known, classes, firsts)
+}
+
+// The classes of a cut below another: its blocks are the halves of the blocks of the cut above, each a part of the table.
+fn class_cut_below(table: &[i32], size: usize, classes: &mut [usize], firsts: &mut [usize]) -> usize
+    requires { ⌜ CutRoom (now table) size (now classes) (now firsts) ⌝ }
+    requires { ⌜ (length (now classes) ≡ 1 → ⊥) ⌝ }
+    ensures { λ r. ⌜ CutClassed (now (table .entry)) size (length (now (classes .entry))) r (now (classes .exit)) (now (firsts .exit)) ⌝ }
+{
+    let mut count = 0;
+    let mut j = 0;
+    while j < classes.len() / 2 {
+        let start = 2 * j * size;
+        let end = start + 2 * size;
+        count = class_halves(table, size, j, &table[start..end], count, classes, firsts);
+        j += 1;
+    }
+    count
+}
+
+// The classes of a cut whose blocks have this size: each block's class, each class's first block, and the class count. Cut 0 has
+// one block, the table.
+pub fn class_cut(table: &[i32], size: usize, classes: &mut [usize], firsts: &mut [usize]) -> usize
+    requires { ⌜ CutRoom (now table) size (now classes) (now firsts) ⌝ }
+    ensures { λ r. ⌜ CutClassed (now (table .entry)) size (length (now (classes .entry))) r (now (classes .exit)) (now (firsts .exit)) ⌝ }
+{
+    if classes.len() == 1 {
+        return class_block(table, size, 0, table, 0, classes, firsts);
+    }
+    class_cut_below(table, size, classes, firsts)
+}

@@ -8,7 +8,7 @@ use diagram::Built;
 use diagram::records;
 
 // The records of a table, from the classes of its cuts, by rising height.
-pub(crate) fn write_records(
+fn write_records(
     n: usize,
     table: &[i32],
     classes: &[usize],
@@ -41,7 +41,7 @@ pub(crate) fn write_records(
 }
 
 // The classes of all cuts of a table, and from them its records.
-pub(crate) fn record_table(
+fn record_table(
     n: usize,
     table: &[i32],
     classes: &mut [usize],

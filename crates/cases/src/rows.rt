@@ -45,16 +45,16 @@ fn entry(answer: &[usize], at: usize) -> usize {
     if at < answer.len() { answer[at] } else { 0 }
 }
 
-// Whether an answer's sizes are these, with 0 past the last.
-pub fn sizes_are(sizes: &[usize; 12], expected: &[usize]) -> bool {
+// Whether an answer's numbers are these, with 0 past the last.
+pub fn entries_are(answer: &[usize], expected: &[usize]) -> bool {
     let mut k = 0;
-    while k < 12 {
-        if sizes[k] != entry(expected, k) {
+    while k < answer.len() {
+        if answer[k] != entry(expected, k) {
             return false;
         }
         k += 1;
     }
-    expected.len() <= 12
+    expected.len() <= answer.len()
 }
 
 // Whether a cell's five numbers are the expected ones from a place on.

@@ -6,20 +6,13 @@ use cases::samples;
 use cases::tally::Tally;
 use compiler::compile;
 
-// The numbers of Compile's answer.
-struct Numbers {
-    length: usize,
-    nodes: usize,
-    cells: usize,
-    bits: usize,
-}
-
+// Whether Compile gives this length, node count, count of cells and bits, these bytes and these cells.
 fn gives(
     n: usize,
     table: &[i32],
     limit: usize,
     image: &mut [u8],
-    expected: Numbers,
+    expected: &[usize],
     bytes: &[u8],
     cells: &[usize],
 ) -> bool {
@@ -35,10 +28,7 @@ fn gives(
         return false;
     };
     let list = compiled.cells;
-    length == expected.length
-        && nodes == expected.nodes
-        && count == expected.cells
-        && bits == expected.bits
+    rows::entries_are(&[length, nodes, count, bits], expected)
         && rows::bytes_hold(image, bytes)
         && rows::cells_are(list, cells)
 }
@@ -60,18 +50,12 @@ fn refuses(n: usize, table: &[i32], limit: usize, number: u8) -> bool {
 
 fn figure() -> bool {
     let mut image = [BYTE; 120];
-    let expected = Numbers {
-        length: 116,
-        nodes: 6,
-        cells: 3,
-        bits: 40,
-    };
     gives(
         4,
         &samples::FIGURE,
         4,
         &mut image,
-        expected,
+        &[116, 6, 3, 40],
         &samples::FIGURE_IMAGE,
         &samples::FIGURE_CELLS,
     )
@@ -80,18 +64,12 @@ fn figure() -> bool {
 fn twelve() -> bool {
     let table = samples::ramp();
     let mut image = [BYTE; 263];
-    let expected = Numbers {
-        length: 263,
-        nodes: 13,
-        cells: 12,
-        bits: 180,
-    };
     gives(
         12,
         &table,
         12,
         &mut image,
-        expected,
+        &[263, 13, 12, 180],
         &samples::ramp_image(),
         &samples::RAMP_CELLS,
     )

@@ -26,7 +26,7 @@ fn gives(
     let list = planned.cells;
     count == sizes.len()
         && total == bits
-        && rows::sizes_are(&chosen, sizes)
+        && rows::entries_are(&chosen, sizes)
         && rows::cells_are(list, cells)
 }
 
@@ -38,7 +38,7 @@ fn refuses(n: usize, table: &[i32], limit: usize, number: u8) -> bool {
     };
     let chosen = planned.sizes;
     let list = planned.cells;
-    given == number && rows::sizes_are(&chosen, &[]) && rows::cells_are(list, &[])
+    given == number && rows::entries_are(&chosen, &[]) && rows::cells_are(list, &[])
 }
 
 fn twelve() -> bool {

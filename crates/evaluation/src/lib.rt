@@ -7,7 +7,7 @@ ghost use Rattle.image.specs.Run.{groupValue, runCard};
 use image::Evaluated;
 use image::Progress;
 
-pub fn first_progress(image: &[u8]) -> Progress
+fn first_progress(image: &[u8]) -> Progress
     requires { ⌜ 6 ≤ length (now image) ⌝ }
     ensures { λ r. ⌜ r ≡ firstProgress (now (image .entry)) ⌝ }
 {
@@ -21,14 +21,14 @@ pub fn first_progress(image: &[u8]) -> Progress
 }
 
 // The bits of X that a group takes: the top ones of the variables left.
-pub fn group_value(left: usize, group: usize, x: usize) -> usize
+fn group_value(left: usize, group: usize, x: usize) -> usize
     requires { ⌜ (group ≤ left) × (left ≤ 12) ⌝ }
     ensures { λ r. ⌜ r ≡ groupValue left group x ⌝ }
 {
     x / (1 << (left - group)) % (1 << group)
 }
 
-pub fn word_place(image: &[u8], x: usize, progress: Progress) -> usize
+fn word_place(image: &[u8], x: usize, progress: Progress) -> usize
     requires { ⌜ CellAhead (now image) x progress ⌝ }
     ensures { λ r. ⌜ r ≡ wordPlace (now (image .entry)) x progress ⌝ }
 {
@@ -39,7 +39,7 @@ pub fn word_place(image: &[u8], x: usize, progress: Progress) -> usize
 }
 
 // One word of the cell ahead is read, at its place.
-pub fn read_cell(image: &[u8], x: usize, progress: Progress) -> Progress
+fn read_cell(image: &[u8], x: usize, progress: Progress) -> Progress
     requires { ⌜ CellAhead (now image) x progress ⌝ }
     ensures { λ r. ⌜ r ≡ cellRead (now (image .entry)) x progress ⌝ }
 {

@@ -10,7 +10,7 @@ ghost use Rattle.diagram.specs.Inner.Edges.{Recorded};
 use diagram::records;
 
 // Whether a number is one of the first of so many, from 0.
-pub fn is_below(number: i32, count: usize) -> bool
+fn is_below(number: i32, count: usize) -> bool
     requires { ⌜ 1 ≤ count ⌝ }
     ensures { λ r. ⌜ r ≡ within (pos 0) (pos (count - 1)) number ⌝ }
 {
@@ -21,7 +21,7 @@ pub fn is_below(number: i32, count: usize) -> bool
 }
 
 // Whether a child of record k is node 0 or an earlier record of a lower variable.
-pub fn child_fits(records: &[i32], k: usize, child: i32) -> bool
+fn child_fits(records: &[i32], k: usize, child: i32) -> bool
     requires { ⌜ Recorded (now records) k ⌝ }
     ensures { λ r. ⌜ r ≡ childFits (now (records .entry)) k child ⌝ }
 {
@@ -35,7 +35,7 @@ pub fn child_fits(records: &[i32], k: usize, child: i32) -> bool
 }
 
 // Whether record k passes Walk's check.
-pub fn record_fits(n: usize, records: &[i32], k: usize) -> bool
+fn record_fits(n: usize, records: &[i32], k: usize) -> bool
     requires { ⌜ (1 ≤ n) × Recorded (now records) k ⌝ }
     ensures { λ r. ⌜ r ≡ recordFits n (now (records .entry)) k ⌝ }
 {
@@ -52,7 +52,7 @@ pub fn record_fits(n: usize, records: &[i32], k: usize) -> bool
 }
 
 // Whether every record does.
-pub fn records_fit(n: usize, records: &[i32]) -> bool
+fn records_fit(n: usize, records: &[i32]) -> bool
     requires { ⌜ 1 ≤ n ⌝ }
     ensures { λ r. ⌜ r ≡ every (recordFits n (now (records .entry))) (numbersFrom 1 (recordCount (now (records .entry)))) ⌝ }
 {

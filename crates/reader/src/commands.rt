@@ -45,7 +45,7 @@ pub(crate) fn command_size(kind: Kind) -> usize
     }
 }
 
-pub(crate) fn cell_at(image: &[u8], at: usize) -> Command
+fn cell_at(image: &[u8], at: usize) -> Command
     requires { ⌜ at + 7 ≤ length (now image) ⌝ }
     ensures { λ r. ⌜ (r ≡ commandAt cell (now (image .entry)) at) × (widthOf r < 256) ⌝ }
 {

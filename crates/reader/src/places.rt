@@ -24,7 +24,7 @@ pub fn start_place() -> Place
     }
 }
 
-pub(crate) fn after_table(place: Place, n: usize, offset: i32) -> Place
+fn after_table(place: Place, n: usize, offset: i32) -> Place
     requires { ⌜ place .at < 2 ^ 63 ⌝ }
     ensures { λ r. ⌜ r ≡ placeAfter place (Command.Table n offset) ⌝ }
 {
@@ -42,13 +42,7 @@ pub(crate) fn after_table(place: Place, n: usize, offset: i32) -> Place
     }
 }
 
-pub(crate) fn after_cell(
-    place: Place,
-    group: usize,
-    incoming: usize,
-    outgoing: usize,
-    width: usize,
-) -> Place
+fn after_cell(place: Place, group: usize, incoming: usize, outgoing: usize, width: usize) -> Place
     requires { ⌜ Follows place (Command.Cell group incoming outgoing width) ⌝ }
     ensures { λ r. ⌜ r ≡ placeAfter place (Command.Cell group incoming outgoing width) ⌝ }
 {
@@ -66,7 +60,7 @@ pub(crate) fn after_cell(
     }
 }
 
-pub(crate) fn after_word(place: Place, class: usize, weight: i32) -> Place
+fn after_word(place: Place, class: usize, weight: i32) -> Place
     requires { ⌜ Follows place (Command.Word class weight) ⌝ }
     ensures { λ r. ⌜ r ≡ placeAfter place (Command.Word class weight) ⌝ }
 {
@@ -84,7 +78,7 @@ pub(crate) fn after_word(place: Place, class: usize, weight: i32) -> Place
     }
 }
 
-pub(crate) fn after_end(place: Place, bits: usize) -> Place
+fn after_end(place: Place, bits: usize) -> Place
     requires { ⌜ place .at < 2 ^ 63 ⌝ }
     ensures { λ r. ⌜ r ≡ placeAfter place (Command.End bits) ⌝ }
 {

@@ -1,7 +1,5 @@
 // The listing of a table in decimal text: reads standard input to its end and writes the listing to standard output. Where the text
 // is no table, standard error has the line and what was expected there, and standard output the refusal's number.
-ghost use mathlib.Core.Path.{_≡_};
-ghost use Rattle.decimal.specs.Table.{refusalNumber};
 ghost use Rattle.stdin.specs.Input.{Keeps};
 ghost use Rattle.table.specs.Listed.{ListsText};
 use decimal::Expected;
@@ -43,56 +41,6 @@ fn list_text(text: &[u8], out: &mut [u8; TEXT_ROOM]) -> Answer
     }
 }
 
-// The number of a refusal.
-fn number_of(expected: Expected) -> u64
-    ensures { λ r. ⌜ r ≡ refusalNumber expected ⌝ }
-{
-    match expected {
-        Expected::Variables => 101,
-        Expected::Limit => 102,
-        Expected::LineEnd => 103,
-        Expected::Value => 104,
-        Expected::TextEnd => 105,
-    }
-}
-
-fn print_refusal(number: u64) {
-    io::write_all(STDOUT_FILENO, b"refused ");
-    io::print_decimal(STDOUT_FILENO, number);
-    io::write_all(STDOUT_FILENO, b"\n");
-}
-
-fn print_expected(expected: Expected) {
-    match expected {
-        Expected::Variables => {
-            io::write_all(STDERR_FILENO, b"n, a whole number from 1 to 12\n");
-        }
-        Expected::Limit => {
-            io::write_all(STDERR_FILENO, b"A, a whole number from 0 to 255\n");
-        }
-        Expected::LineEnd => {
-            io::write_all(STDERR_FILENO, b"nothing more after n and A\n");
-        }
-        Expected::Value => {
-            io::write_all(
-                STDERR_FILENO,
-                b"a whole number from -2147483648 to 2147483647\n",
-            );
-        }
-        Expected::TextEnd => {
-            io::write_all(STDERR_FILENO, b"nothing more after 2^n values\n");
-        }
-    }
-}
-
-fn print_wrong(line: usize, expected: Expected) {
-    io::write_all(STDERR_FILENO, b"line ");
-    io::print_decimal(STDERR_FILENO, line as u64);
-    io::write_all(STDERR_FILENO, b": expected ");
-    print_expected(expected);
-    print_refusal(number_of(expected));
-}
-
 fn print_listing(out: &[u8]) {
     if !io::write_all(STDOUT_FILENO, out) {
         io::write_all(STDERR_FILENO, b"table: cannot write standard output\n");
@@ -104,7 +52,7 @@ fn print_answer(text: &[u8]) {
     let mut out = [0u8; TEXT_ROOM];
     match list_text(text, &mut out) {
         Answer::Listing(length) => print_listing(&out[..length]),
-        Answer::Wrong { line, expected } => print_wrong(line, expected),
+        Answer::Wrong { line, expected } => messages::print_wrong(line, expected),
     }
 }
 
@@ -116,7 +64,7 @@ fn main() {
     };
     if count == KEPT {
         io::write_all(STDERR_FILENO, b"expected a text of at most 1048576 bytes\n");
-        print_refusal(106);
+        messages::print_refusal(106);
         return;
     }
     print_answer(&buffer[..count]);

@@ -10,7 +10,7 @@ ghost use Rattle.diagram.specs.Inner.Checks.{tableChecks, checked};
 use diagram::Checked;
 
 // Whether value x is in range.
-pub fn value_fits(table: &[i32], x: usize) -> bool
+fn value_fits(table: &[i32], x: usize) -> bool
     requires { ⌜ x < length (now table) ⌝ }
     ensures { λ r. ⌜ r ≡ isValue (getD (now (table .entry)) x (pos 0)) ⌝ }
 {
@@ -18,7 +18,7 @@ pub fn value_fits(table: &[i32], x: usize) -> bool
 }
 
 // Whether every value is.
-pub fn values_fit(table: &[i32]) -> bool
+fn values_fit(table: &[i32]) -> bool
     ensures { λ r. ⌜ r ≡ every isValue (now (table .entry)) ⌝ }
 {
     let mut x = 0;

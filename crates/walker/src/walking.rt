@@ -7,7 +7,7 @@ use diagram::Edge;
 use diagram::records;
 
 // The edge that X takes from node k at variable i, or none where k is node 0 or a record of another variable.
-pub(crate) fn edge_at(records: &[i32], i: usize, k: usize, x: usize) -> Edge
+fn edge_at(records: &[i32], i: usize, k: usize, x: usize) -> Edge
     requires { ⌜ (i < 12) × Walkable (now records) k ⌝ }
     ensures { λ r. ⌜ r ≡ edgeAt (now (records .entry)) i k x ⌝ }
 {

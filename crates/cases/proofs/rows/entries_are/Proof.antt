@@ -1,15 +1,16 @@
--- `cases::rows::sizes_are` is safe and ends. Assumes nothing.
+-- `cases::rows::entries_are` is safe and ends. Assumes nothing.
 use Prim.Native.Nat.{_≤_, _-_}
+use lib.ListN.{length}
 use native.Mathlib.Omega.{arith}
 use borrow.Author.Needs.{needs}
-use Rattle.cases.proofs.rows.sizes_are.Statement.{statement}
-use Rattle.cases.proofs.rows.sizes_are.Tie as tie
+use Rattle.cases.proofs.rows.entries_are.Statement.{statement}
+use Rattle.cases.proofs.rows.entries_are.Tie as tie
 
 abbrev Inv-loop : tie.InvT-loop
-Inv-loop sizes expected k₀ k = k ≤ 12
+Inv-loop answer expected k₀ k = k ≤ length answer
 
 abbrev μ-loop : tie.MeasureT-loop
-μ-loop sizes expected k₀ k = 12 - k
+μ-loop answer expected k₀ k = length answer - k
 
 loop-holds : tie.Need-loop-holds Inv-loop μ-loop
 loop-holds c = search needs
@@ -38,8 +39,8 @@ loop-again c = search needs
 returns-2 : tie.Need-returns-2 Inv-loop μ-loop
 returns-2 c = search needs
 
-pub sizes-are-spec : {M : Type 1} → statement M
-sizes-are-spec =
+pub entries-are-spec : {M : Type 1} → statement M
+entries-are-spec =
     tie.close
     (tie.spec
     Inv-loop

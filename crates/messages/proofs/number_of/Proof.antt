@@ -1,9 +1,9 @@
--- `table::number_of` meets its contract, case by case. Assumes nothing.
+-- `messages::number_of` meets its contract, case by case. Assumes nothing.
 use mathlib.Core.Path.{sym, ap}
 use borrow.Author.Needs.{needs}
 use Rattle.decimal.specs.Table.{refusalNumber}
-use Rattle.table.proofs.number_of.Statement.{statement}
-use Rattle.table.proofs.number_of.Tie as tie
+use Rattle.messages.proofs.number_of.Statement.{statement}
+use Rattle.messages.proofs.number_of.Tie as tie
 
 enum-told : tie.Need-enum-told
 enum-told c = search needs

@@ -1,3 +1,0 @@
-// The cases of Plan and Compile.
-pub mod compiling;
-pub mod planning;

@@ -1,3 +1,0 @@
-// The cases of Build and Walk.
-pub mod building;
-pub mod walking;

@@ -1,3 +1,0 @@
-// The cases of Run and Expand.
-pub mod expanding;
-pub mod running;

@@ -1,0 +1,83 @@
+// Cases of the six operations, as a text: a line with the case's title, then a line of numbers. These are the operation, eight
+// numbers of it (0 behind its last), three counts, and as many numbers in three rows; 0 for the refusal where there is none:
+//   1 Build    n, places, refusal, node count, offset; table, what stands in front of the lent places
+//   2 Walk     n, offset, X, refusal, value; records
+//   3 Plan     n, A, refusal, count of cells, bits; table, sizes, cells of five numbers each
+//   4 Compile  n, A, places, refusal, length, node count, count of cells, bits; table, cells, what stands in front
+//   5 Run      X, refusal, value, words; image
+//   6 Expand   places, refusal; image, what stands in front
+
+ghost use mathlib.Core.Path.{_≡_};
+ghost use lib.ListN.{length};
+use crate::tally::Tally;
+use case_rows::rows;
+use case_rows::text;
+
+// Whether the operation answers as the numbers and rows of a case say.
+fn judge_rows(numbers: &[i32], first: &[i32], second: &[i32], third: &[i32]) -> bool
+    requires { ⌜ length (now numbers) ≡ 9 ⌝ }
+{
+    let operation = numbers[0];
+    if operation == 1 {
+        return case_diagrams::build(numbers, first, second);
+    }
+    if operation == 2 {
+        return case_diagrams::walk(numbers, first);
+    }
+    if operation == 3 {
+        return case_cascades::plan(numbers, first, second, third);
+    }
+    if operation == 4 {
+        return case_cascades::compile(numbers, first, second, third);
+    }
+    if operation == 5 {
+        return case_images::run(numbers, first);
+    }
+    if operation == 6 {
+        return case_images::expand(numbers, first, second);
+    }
+    false
+}
+
+// The same of a case's numbers one behind the other.
+fn judge(row: &[i32]) -> bool {
+    if row.len() < 12 {
+        return false;
+    }
+    let first = 12 + rows::size(row[9]);
+    let second = first + rows::size(row[10]);
+    let third = second + rows::size(row[11]);
+    if row.len() != third {
+        return false;
+    }
+    judge_rows(
+        &row[..9],
+        &row[12..first],
+        &row[first..second],
+        &row[second..],
+    )
+}
+
+// The same of a line of numbers.
+fn judge_line(line: &[u8]) -> bool {
+    let mut row = [0i32; 8448];
+    let count = text::read_row(line, &mut row);
+    judge(&row[..count])
+}
+
+// Judges the cases of a text, prints a line for each, and at the end how many passed and failed.
+pub(crate) fn judge_all(cases: &[u8]) {
+    let mut tally = Tally {
+        passed: 0,
+        failed: 0,
+    };
+    let mut at = 0;
+    while at < cases.len() {
+        let numbers = text::behind_line(cases, at);
+        let next = text::behind_line(cases, numbers);
+        let passed = judge_line(&cases[numbers..next]);
+        tally = tally.note(&cases[at..numbers], passed);
+        at = next;
+    }
+    tally.print();
+}

@@ -1,4 +1,4 @@
--- `exports_diagram::sizes::sizes_fit` meets its contract: each size is tested in turn. Assumes nothing.
+-- `exports_classes::sizes::sizes_fit` meets its contract: each size is tested in turn. Assumes nothing.
 use Prim.Native.Nat.{suc, _+_, _-_, _^_}
 use mathlib.Core.Path.{_≡_, sym, _∙_, ap}
 use native.Mathlib.Numerals.{add-one}
@@ -7,9 +7,9 @@ use borrow.Author.Needs.{needs}
 use borrow.Author.Tests.{le-leb, lt-leb, eq-eqb, ne-eqb}
 use Rattle.numbers.specs.Ranges.{mostVariables}
 use Rattle.blocks.specs.Inner.Layout.{cutPlace}
-use Rattle.exports_diagram.specs.Classing.{sizesFit}
-use Rattle.exports_diagram.proofs.sizes.sizes_fit.Statement.{statement}
-use Rattle.exports_diagram.proofs.sizes.sizes_fit.Tie as tie
+use Rattle.exports_classes.specs.Classing.{sizesFit}
+use Rattle.exports_classes.proofs.sizes.sizes_fit.Statement.{statement}
+use Rattle.exports_classes.proofs.sizes.sizes_fit.Tie as tie
 
 returns : tie.Need-returns
 unfolding sizesFit mostVariables

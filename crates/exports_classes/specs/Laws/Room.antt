@@ -10,7 +10,7 @@ use borrow.Author.Tests.{leb-true, eqb-true}
 use Rattle.numbers.specs.Ranges.{mostVariables}
 use Rattle.numbers.specs.Laws.Bools.{both}
 use Rattle.blocks.specs.Inner.Layout.{cutPlace, CutsRoom}
-use Rattle.exports_diagram.specs.Classing.{sizesFit}
+use Rattle.exports_classes.specs.Classing.{sizesFit}
 
 -- Sizes that fit are room for the classes of all cuts.
 pub sizes-room : (n : ℕ) (table : List ℤ) (classes firsts counts : List ℕ) → sizesFit n (length table) (length classes) (length firsts) (length counts) ≡ true → CutsRoom n table classes firsts × (length counts ≡ suc n)

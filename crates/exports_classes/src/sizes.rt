@@ -1,6 +1,6 @@
 // The sizes that rows lent by a caller must have.
 ghost use mathlib.Core.Path.{_≡_};
-ghost use Rattle.exports_diagram.specs.Classing.{sizesFit};
+ghost use Rattle.exports_classes.specs.Classing.{sizesFit};
 
 // Whether a table and three rows, given by their lengths, have the sizes that the classes of all cuts need.
 pub(crate) fn sizes_fit(n: usize, values: usize, blocks: usize, firsts: usize, cuts: usize) -> bool

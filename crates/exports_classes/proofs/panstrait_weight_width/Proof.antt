@@ -1,11 +1,11 @@
--- `exports_image::panstrait_weight_width` meets its contract. Assumes nothing.
+-- `exports_classes::panstrait_weight_width` meets its contract. Assumes nothing.
 use mathlib.Core.Path.{_∙_, ap₂}
 use mathlib.Core.List.{[], _∷_}
 use mir.Facts.{toZ-ofZ}
 use borrow.Author.Needs.{needs}
 use Rattle.numbers.specs.Widths.{weightWidth}
-use Rattle.exports_image.proofs.panstrait_weight_width.Statement.{statement}
-use Rattle.exports_image.proofs.panstrait_weight_width.Tie as tie
+use Rattle.exports_classes.proofs.panstrait_weight_width.Statement.{statement}
+use Rattle.exports_classes.proofs.panstrait_weight_width.Tie as tie
 
 weight-width-requires : tie.Need-weight-width-requires
 weight-width-requires c κs = search needs

@@ -1,10 +1,10 @@
--- `exports_diagram::panstrait_classes` meets its contract: sizes that fit are what the classing of all cuts requires. Assumes
+-- `exports_classes::panstrait_classes` meets its contract: sizes that fit are what the classing of all cuts requires. Assumes
 -- nothing.
 use mathlib.Core.Path.{refl, sym, _∙_}
 use borrow.Author.Needs.{needs}
-use Rattle.exports_diagram.specs.Laws.Room.{sizes-room}
-use Rattle.exports_diagram.proofs.panstrait_classes.Statement.{statement}
-use Rattle.exports_diagram.proofs.panstrait_classes.Tie as tie
+use Rattle.exports_classes.specs.Laws.Room.{sizes-room}
+use Rattle.exports_classes.proofs.panstrait_classes.Statement.{statement}
+use Rattle.exports_classes.proofs.panstrait_classes.Tie as tie
 
 sizes-fit-requires : tie.Need-sizes-fit-requires
 sizes-fit-requires c κs = search needs

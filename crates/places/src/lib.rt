@@ -96,7 +96,7 @@ fn after_end(place: Place, bits: usize) -> Place
     }
 }
 
-pub(crate) fn place_after(place: Place, command: Command) -> Place
+pub fn place_after(place: Place, command: Command) -> Place
     requires { ⌜ Follows place command ⌝ }
     ensures { λ r. ⌜ r ≡ placeAfter place command ⌝ }
 {

@@ -1,9 +1,9 @@
--- `reader::commands::due_kind` meets its contract, test by test. Assumes nothing.
+-- `command_reader::due_kind` meets its contract, test by test. Assumes nothing.
 use mathlib.Core.Path.{sym}
 use Rattle.image.specs.Inner.Kinds.{dueOf}
 use Rattle.image.specs.Laws.Due.{due-table, due-word, due-cell, due-end}
-use Rattle.reader.proofs.commands.due_kind.Statement.{statement}
-use Rattle.reader.proofs.commands.due_kind.Tie as tie
+use Rattle.command_reader.proofs.due_kind.Statement.{statement}
+use Rattle.command_reader.proofs.due_kind.Tie as tie
 
 returns : tie.Need-returns
 unfolding dueOf

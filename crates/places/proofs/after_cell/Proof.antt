@@ -1,4 +1,4 @@
--- `reader::places::after_cell` meets its contract. Assumes nothing.
+-- `places::after_cell` meets its contract. Assumes nothing.
 use Prim.Native.Nat.{_<_}
 use native.Mathlib.Omega.{arith}
 use mir.Facts.{fits-of-lt}
@@ -11,8 +11,8 @@ use Rattle.image.specs.Reader.{placeAfter}
 use Rattle.image.specs.WellFormed.{KeepsShape}
 use Rattle.image.specs.Laws.Bounds.{cell-bits-most, cell-fits, words-most}
 use Rattle.image.specs.Laws.Rules.{shape-facts}
-use Rattle.reader.proofs.places.after_cell.Statement.{statement}
-use Rattle.reader.proofs.places.after_cell.Tie as tie
+use Rattle.places.proofs.after_cell.Statement.{statement}
+use Rattle.places.proofs.after_cell.Tie as tie
 
 shape : (s : tie.Start) → KeepsShape (s .args .place .left) (s .args .place .classes) (s .args .group) (s .args .incoming) (s .args .outgoing)
 shape s = shape-facts (s .args .place) (s .args .group) (s .args .incoming) (s .args .outgoing) (s .args .width) (s .pre .rules)

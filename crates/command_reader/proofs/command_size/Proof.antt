@@ -1,10 +1,10 @@
--- `reader::commands::command_size` meets its contract, kind by kind. Assumes nothing.
+-- `command_reader::command_size` meets its contract, kind by kind. Assumes nothing.
 use mathlib.Core.Path.{sym, ap}
 use borrow.Author.Needs.{needs}
 use Rattle.image.specs.Inner.Kinds.{dueOf}
 use Rattle.image.specs.Reader.{dueSize}
-use Rattle.reader.proofs.commands.command_size.Statement.{statement}
-use Rattle.reader.proofs.commands.command_size.Tie as tie
+use Rattle.command_reader.proofs.command_size.Statement.{statement}
+use Rattle.command_reader.proofs.command_size.Tie as tie
 
 enum-told : tie.Need-enum-told
 enum-told c = search needs

@@ -1,9 +1,9 @@
--- `reader::places::after_table` meets its contract. Assumes nothing.
+-- `places::after_table` meets its contract. Assumes nothing.
 use mathlib.Core.Path.{refl}
 use borrow.Author.Needs.{needs}
 use Rattle.image.specs.Reader.{placeAfter}
-use Rattle.reader.proofs.places.after_table.Statement.{statement}
-use Rattle.reader.proofs.places.after_table.Tie as tie
+use Rattle.places.proofs.after_table.Statement.{statement}
+use Rattle.places.proofs.after_table.Tie as tie
 
 add-t4 : tie.Need-add-t4
 add-t4 c = search needs

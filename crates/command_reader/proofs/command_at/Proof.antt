@@ -1,4 +1,4 @@
--- `reader::commands::command_at` meets its contract, kind by kind. Assumes nothing.
+-- `command_reader::command_at` meets its contract, kind by kind. Assumes nothing.
 use mathlib.Core.Path.{_∙_, ap, ap₂}
 use native.Mathlib.Omega.{arith}
 use mir.Facts.{toZ-ofZ}
@@ -6,8 +6,8 @@ use borrow.Author.Needs.{needs}
 use Rattle.image.specs.Inner.Kinds.{dueOf, widthOf}
 use Rattle.image.specs.Reader.{dueSize, commandAt}
 use Rattle.image.specs.declared.Command.the-variants.{Table, Word, End}
-use Rattle.reader.proofs.commands.command_at.Statement.{statement}
-use Rattle.reader.proofs.commands.command_at.Tie as tie
+use Rattle.command_reader.proofs.command_at.Statement.{statement}
+use Rattle.command_reader.proofs.command_at.Tie as tie
 
 enum-told : tie.Need-enum-told
 enum-told c = search needs

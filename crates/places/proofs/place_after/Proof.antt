@@ -1,12 +1,12 @@
--- `reader::places::place_after` meets its contract, command by command. Assumes nothing.
+-- `places::place_after` meets its contract, command by command. Assumes nothing.
 use mathlib.Core.Path.{sym, _∙_, ap, subst}
 use mir.Facts.{toZ-ofZ}
 use borrow.Author.Needs.{needs}
 use Rattle.image.specs.Inner.Bounds.{Follows}
 use Rattle.image.specs.Reader.{placeAfter}
 use Rattle.image.specs.declared.Command.the-variants.{Table, Word}
-use Rattle.reader.proofs.places.place_after.Statement.{statement}
-use Rattle.reader.proofs.places.place_after.Tie as tie
+use Rattle.places.proofs.place_after.Statement.{statement}
+use Rattle.places.proofs.place_after.Tie as tie
 
 enum-known-command : tie.Need-enum-known-command
 enum-known-command c = search needs

@@ -1,9 +1,9 @@
--- `reader::places::after_end` meets its contract. Assumes nothing.
+-- `places::after_end` meets its contract. Assumes nothing.
 use mir.Facts.{toZ-ofZ}
 use borrow.Author.Needs.{needs}
 use Rattle.image.specs.Reader.{placeAfter}
-use Rattle.reader.proofs.places.after_end.Statement.{statement}
-use Rattle.reader.proofs.places.after_end.Tie as tie
+use Rattle.places.proofs.after_end.Statement.{statement}
+use Rattle.places.proofs.after_end.Tie as tie
 
 add-t3 : tie.Need-add-t3
 add-t3 c = search needs

@@ -1,9 +1,9 @@
--- `reader::commands::cell_at` meets its contract, operand by operand. Assumes nothing.
+-- `command_reader::cell_at` meets its contract, operand by operand. Assumes nothing.
 use borrow.Author.Needs.{needs}
 use Rattle.image.specs.Inner.Kinds.{widthOf}
 use Rattle.image.specs.Reader.{commandAt}
-use Rattle.reader.proofs.commands.cell_at.Statement.{statement}
-use Rattle.reader.proofs.commands.cell_at.Tie as tie
+use Rattle.command_reader.proofs.cell_at.Statement.{statement}
+use Rattle.command_reader.proofs.cell_at.Tie as tie
 
 add-read-one : tie.Need-add-read-one
 add-read-one c = search needs

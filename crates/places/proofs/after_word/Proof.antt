@@ -1,4 +1,4 @@
--- `reader::places::after_word` meets its contract. Assumes nothing.
+-- `places::after_word` meets its contract. Assumes nothing.
 use mathlib.Core.Path.{_≡_, _∙_, ap₂}
 use mir.Syntax.{w32}
 use mir.Val.{ofZ, toZ}
@@ -8,8 +8,8 @@ use Rattle.numbers.specs.Ranges.{lesser, greater}
 use Rattle.image.specs.Laws.Due.{words-due}
 use Rattle.image.specs.Inner.Kinds.{kindOf}
 use Rattle.image.specs.Reader.{placeAfter}
-use Rattle.reader.proofs.places.after_word.Statement.{statement}
-use Rattle.reader.proofs.places.after_word.Tie as tie
+use Rattle.places.proofs.after_word.Statement.{statement}
+use Rattle.places.proofs.after_word.Tie as tie
 
 add-t4 : tie.Need-add-t4
 add-t4 c = search needs

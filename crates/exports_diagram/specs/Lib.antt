@@ -1,4 +1,3 @@
--- What the classes of all cuts, Build and Walk answer through C, and leave behind references and in lent buffers.
-pub mod Classing
+-- What Build and Walk answer through C, and leave behind references and in the lent buffer.
 pub mod Given
 pub mod Laws

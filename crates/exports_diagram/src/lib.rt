@@ -1,27 +1,5 @@
-// The classes of all cuts, Build and Walk through C. No function here requires anything of its caller; a refusal leaves every
-// lent buffer as it was.
-mod sizes;
-
-ghost use Rattle.exports_diagram.specs.Classing.{Classed};
+// Build and Walk through C. No function here requires anything of its caller; a refusal leaves every lent buffer as it was.
 ghost use Rattle.exports_diagram.specs.Given.{BuildGiven, WalkGiven};
-
-// The classes of all cuts: each block's class, each class's first block, and the class count of each cut.
-#[no_mangle]
-pub extern "C" fn panstrait_classes(
-    n: usize,
-    table: &[i32],
-    classes: &mut [usize],
-    firsts: &mut [usize],
-    counts: &mut [usize],
-) -> bool
-    ensures { λ r. ⌜ Classed n (now (table .entry)) (now (classes .entry)) (now (firsts .entry)) (now (counts .entry)) r (now (classes .exit)) (now (firsts .exit)) (now (counts .exit)) ⌝ }
-{
-    if sizes::sizes_fit(n, table.len(), classes.len(), firsts.len(), counts.len()) {
-        classes::class_cuts(n, table, classes, firsts, counts);
-        return true;
-    }
-    false
-}
 
 // Build: the records of a table, its node count and its offset, or the refusal's number.
 #[no_mangle]

@@ -1,25 +1,5 @@
-// The widths, Run and Expand through C. No function here requires anything of its caller; a refusal leaves every lent buffer as
-// it was.
-ghost use mathlib.Core.Path.{_≡_};
-ghost use mathlib.Core.List.{[], _∷_};
-ghost use Rattle.numbers.specs.Widths.{railWidth, weightWidth};
+// Run and Expand through C. No function here requires anything of its caller; a refusal leaves every lent buffer as it was.
 ghost use Rattle.exports_image.specs.Given.{RunGiven, ExpandGiven};
-
-// The rail width of so many classes.
-#[no_mangle]
-pub extern "C" fn panstrait_rail_width(count: u32) -> usize
-    ensures { λ r. ⌜ r ≡ railWidth count ⌝ }
-{
-    widths::rail_width(count)
-}
-
-// The weight width of a cell, from its least and its greatest weight.
-#[no_mangle]
-pub extern "C" fn panstrait_weight_width(least: i32, greatest: i32) -> usize
-    ensures { λ r. ⌜ r ≡ weightWidth (least ∷ greatest ∷ []) ⌝ }
-{
-    widths::weight_width(least, greatest)
-}
 
 // Run: the value of an image at X and the words read for it, or the refusal's number.
 #[no_mangle]

@@ -1,4 +1,2 @@
 // The image reader: a step from a place to a command and the next place, and the check of a whole image.
-mod commands;
-pub mod places;
 pub mod reading;

@@ -5,8 +5,6 @@ ghost use Rattle.numbers.specs.Answers.{mapAnswer};
 ghost use Rattle.image.specs.Inner.Bounds.{WithinBounds, IsDue};
 ghost use Rattle.image.specs.Inner.Kinds.{checked};
 ghost use Rattle.image.specs.Reader.{judged, step, stepped, reading};
-use crate::commands;
-use crate::places;
 use image::Checked;
 use image::Command;
 use image::Place;
@@ -38,14 +36,14 @@ pub fn read_step(image: &[u8], place: Place) -> Step
     if image.len() <= at {
         return Step::Refused(11);
     }
-    let kind = commands::due_kind(place);
-    if operands::byte(image, at) != commands::command_byte(kind) {
+    let kind = command_reader::due_kind(place);
+    if operands::byte(image, at) != command_reader::command_byte(kind) {
         return Step::Refused(12);
     }
-    if image.len() - at < commands::command_size(kind) {
+    if image.len() - at < command_reader::command_size(kind) {
         return Step::Refused(11);
     }
-    judge(image, place, commands::command_at(image, at, kind))
+    judge(image, place, command_reader::command_at(image, at, kind))
 }
 
 // The image is checked from the left, a step at a time.

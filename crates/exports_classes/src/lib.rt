@@ -1,0 +1,41 @@
+// Widths and classes through C. No function here requires anything of its caller; rows of wrong sizes are left as they were.
+mod sizes;
+
+ghost use mathlib.Core.Path.{_≡_};
+ghost use mathlib.Core.List.{[], _∷_};
+ghost use Rattle.numbers.specs.Widths.{railWidth, weightWidth};
+ghost use Rattle.exports_classes.specs.Classing.{Classed};
+
+// The rail width of so many classes.
+#[no_mangle]
+pub extern "C" fn panstrait_rail_width(count: u32) -> usize
+    ensures { λ r. ⌜ r ≡ railWidth count ⌝ }
+{
+    widths::rail_width(count)
+}
+
+// The weight width of a cell, from its least and its greatest weight.
+#[no_mangle]
+pub extern "C" fn panstrait_weight_width(least: i32, greatest: i32) -> usize
+    ensures { λ r. ⌜ r ≡ weightWidth (least ∷ greatest ∷ []) ⌝ }
+{
+    widths::weight_width(least, greatest)
+}
+
+// The classes of all cuts: each block's class, each class's first block, and the class count of each cut.
+#[no_mangle]
+pub extern "C" fn panstrait_classes(
+    n: usize,
+    table: &[i32],
+    classes: &mut [usize],
+    firsts: &mut [usize],
+    counts: &mut [usize],
+) -> bool
+    ensures { λ r. ⌜ Classed n (now (table .entry)) (now (classes .entry)) (now (firsts .entry)) (now (counts .entry)) r (now (classes .exit)) (now (firsts .exit)) (now (counts .exit)) ⌝ }
+{
+    if sizes::sizes_fit(n, table.len(), classes.len(), firsts.len(), counts.len()) {
+        classes::class_cuts(n, table, classes, firsts, counts);
+        return true;
+    }
+    false
+}

@@ -5,7 +5,6 @@ ghost use Rattle.diagram.specs.Accepted.{Accepted};
 ghost use Rattle.diagram.specs.Build.{Builds};
 ghost use Rattle.diagram.specs.Inner.Building.{TableRoom, BuildReady, AllRecorded};
 use diagram::Built;
-use diagram::records;
 
 // The records of a table, from the classes of its cuts, by rising height.
 fn write_records(

@@ -9,8 +9,8 @@
 
 ghost use mathlib.Core.Path.{_≡_};
 ghost use lib.ListN.{length};
-use crate::tally::Tally;
 use case_rows::rows;
+use case_rows::tally::Tally;
 use case_rows::text;
 
 // Whether the operation answers as the numbers and rows of a case say.

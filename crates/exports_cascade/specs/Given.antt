@@ -1,17 +1,13 @@
 -- How Plan's and Compile's answers come back through C: a number as the result, rows of numbers, values behind references.
 use Prim.Native.Nat.{ℕ}
 use mathlib.Core.Path.{_≡_}
-use mathlib.Core.List.{List, [], _∷_, flatMap}
+use mathlib.Core.List.{List, flatMap}
 use lib.ListN.{length}
 use lib.IntN.{ℤ}
 use Rattle.cascade.specs.Plan.{plan, planAnswer, sizeArray, cellArray}
 use Rattle.cascade.specs.Compile.{compileAnswer, compileCells, compileBuffer}
-use Rattle.cascade.specs.declared.Cell.{Cell}
+use Rattle.cell_rows.specs.Rows.{cellRow}
 use Rattle.results.specs.Results.{resultOf, leftBehind}
-
--- The numbers of a cell: group, incoming count, outgoing count, weight width, bits.
-unfoldable pub cellRow : Cell → List ℕ
-cellRow cell = cell .group ∷ cell .incoming ∷ cell .outgoing ∷ cell .width ∷ cell .bits ∷ []
 
 -- What Plan answers, and leaves in its two rows and behind its two references.
 pub record PlanGiven (n : ℕ) (table : List ℤ) (limit : ℕ) (sizes cells : List ℕ) (count bits : ℕ) (result : ℕ) (sizes′ cells′ : List ℕ) (count′ bits′ : ℕ) : Type 0 where

@@ -1,6 +1,4 @@
 // Plan and Compile through C. No function here requires anything of its caller; a refusal leaves every lent buffer as it was.
-mod rows;
-
 ghost use Rattle.exports_cascade.specs.Given.{PlanGiven, CompileGiven};
 use cascade::Outcome;
 use cascade::Verdict;
@@ -28,7 +26,7 @@ pub extern "C" fn panstrait_plan(
             let chosen = planned.sizes;
             *sizes = chosen;
             let list = planned.cells;
-            *cells = rows::cell_rows(list);
+            *cells = cell_rows::cell_rows(list);
             *count = number;
             *bits = total;
             0
@@ -63,7 +61,7 @@ pub extern "C" fn panstrait_compile(
             bits: total,
         } => {
             let list = compiled.cells;
-            *cells = rows::cell_rows(list);
+            *cells = cell_rows::cell_rows(list);
             *length = bytes;
             *nodes = all;
             *count = number;

@@ -7,7 +7,6 @@ ghost use Rattle.numbers.specs.Lists.{numbersFrom, every};
 ghost use Rattle.numbers.specs.Ranges.{isVariables, within};
 ghost use Rattle.diagram.specs.Walk.{childFits, recordFits, recordCount, listFits};
 ghost use Rattle.diagram.specs.Inner.Edges.{Recorded};
-use diagram::records;
 
 // Whether a number is one of the first of so many, from 0.
 fn is_below(number: i32, count: usize) -> bool

@@ -1,12 +1,9 @@
 // The records of a cut, from its classes: each class is given its node, and a branching one its record.
 ghost use mathlib.Core.Path.{_≡_};
-ghost use Prim.Native.Nat.{_+_, _-_, _*_, _≤_, _<_};
+ghost use Prim.Native.Nat.{_+_, _-_, _<_};
 ghost use lib.ListN.{length, set};
-ghost use Rattle.numbers.specs.Inner.Rows.{overwritten};
 ghost use Rattle.blocks.specs.Inner.Layout.{cutPlace};
 ghost use Rattle.diagram.specs.Inner.Building.{Forking, RecordRoom, ClassPlaced, CutReady, CutRecorded};
-ghost use Rattle.diagram.specs.Records.{recordNumbers, recordSize};
-use diagram::records;
 
 // Number k of cut h in a row of all cuts is set.
 fn set_in_cut(row: &mut [usize], h: usize, k: usize, number: usize)
@@ -15,26 +12,6 @@ fn set_in_cut(row: &mut [usize], h: usize, k: usize, number: usize)
 {
     let place = numbers::power(h) - 1 + k;
     row[place] = number;
-}
-
-// A record's numbers, behind those of the records made.
-fn write_record(
-    nodes: &mut [i32],
-    made: usize,
-    variable: usize,
-    low: usize,
-    high: usize,
-    weight: i32,
-)
-    requires { ⌜ recordSize * made + recordSize ≤ length (now nodes) ⌝ }
-    requires { ⌜ (variable < 4096) × ((low < 4096) × (high < 4096)) ⌝ }
-    ensures { λ _. ⌜ now (nodes .exit) ≡ overwritten (now (nodes .entry)) (recordSize * made) (recordNumbers (record { variable = variable; low = low; high = high; weight = weight })) ⌝ }
-{
-    let at = records::RECORD_SIZE * made;
-    nodes[at] = variable as i32;
-    nodes[at + 1] = low as i32;
-    nodes[at + 2] = high as i32;
-    nodes[at + 3] = weight;
 }
 
 // Class c of cut h gets its node: that of its lower half where it does not branch, else a new record behind those made.
@@ -58,7 +35,7 @@ fn place_class(
         set_in_cut(row, h, c, fork.low);
         return made;
     }
-    write_record(nodes, made, n - (h + 1), fork.low, fork.high, fork.weight);
+    records::write_record(nodes, made, n - (h + 1), fork.low, fork.high, fork.weight);
     set_in_cut(row, h, c, made + 1);
     made + 1
 }

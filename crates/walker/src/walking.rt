@@ -4,7 +4,6 @@ ghost use Prim.Native.Nat.{_<_};
 ghost use Rattle.diagram.specs.Walk.{walkValue};
 ghost use Rattle.diagram.specs.Inner.Edges.{Walkable, Passing, edgeAt};
 use diagram::Edge;
-use diagram::records;
 
 // The edge that X takes from node k at variable i, or none where k is node 0 or a record of another variable.
 fn edge_at(records: &[i32], i: usize, k: usize, x: usize) -> Edge

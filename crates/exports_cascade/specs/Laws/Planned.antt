@@ -11,7 +11,8 @@ use Rattle.cascade.specs.declared.Compiled.{Compiled}
 use Rattle.cascade.specs.declared.Outcome.the-variants.{Image, Refused as NoImage}
 use Rattle.cascade.specs.declared.Planned.{Planned}
 use Rattle.cascade.specs.declared.Verdict.the-variants.{Grouping, Refused}
-use Rattle.exports_cascade.specs.Given.{cellRow, PlanGiven, CompileGiven}
+use Rattle.exports_cascade.specs.Given.{PlanGiven, CompileGiven}
+use Rattle.cell_rows.specs.Rows.{cellRow}
 
 module _ (n : ℕ) (table : List ℤ) (limit : ℕ) (sizes cells : List ℕ) (count bits : ℕ) (p : Planned) (plans : Plans n table limit p) where
   -- A grouping comes back.

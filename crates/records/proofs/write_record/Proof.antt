@@ -1,4 +1,4 @@
--- `recorder::write_record` meets its contract. Assumes nothing.
+-- `records::write_record` meets its contract. Assumes nothing.
 use Prim.Native.Nat.{_+_, _*_, _≤_}
 use native.Mathlib.Omega.{arith}
 use lib.ListN.{length, length-set}
@@ -8,8 +8,8 @@ use mir.Facts.{toZ-pos, toZ-ofZ}
 use borrow.Author.Needs.{needs}
 use Rattle.numbers.specs.Laws.Rows.{four-stored}
 use Rattle.diagram.specs.Records.{recordSize, recordNumbers}
-use Rattle.recorder.proofs.write_record.Statement.{statement}
-use Rattle.recorder.proofs.write_record.Tie as tie
+use Rattle.records.proofs.write_record.Statement.{statement}
+use Rattle.records.proofs.write_record.Tie as tie
 
 -- The four places are within the buffer.
 room : (c : tie.Start) → 4 * c .args .made + 4 ≤ length (c .args .nodes .now)

@@ -1,14 +1,14 @@
--- `diagram::records::number_at` meets its contract: the numbers of record k are among those of the list. Assumes nothing.
+-- `records::number_at` meets its contract: the numbers of record k are among those of the list. Assumes nothing.
 use Prim.Native.Nat.{_+_, _-_, _*_, _<_}
 use native.Mathlib.Omega.{arith}
 use lib.ListN.{length}
 use mir.Facts.{toZ-ofZ}
 use borrow.Author.Needs.{needs, scaled-fits}
 use Rattle.diagram.specs.Records.{recordSize}
 use Rattle.diagram.specs.Walk.{numberAt}
 use Rattle.diagram.specs.Laws.Checks.{number-inside}
-use Rattle.diagram.proofs.records.number_at.Statement.{statement}
-use Rattle.diagram.proofs.records.number_at.Tie as tie
+use Rattle.records.proofs.number_at.Statement.{statement}
+use Rattle.records.proofs.number_at.Tie as tie
 
 -- The place that is read.
 inside : (c : tie.Start) → 4 * (c .args .k - 1) + c .args .c < length (c .args .records .now)

@@ -11,7 +11,7 @@ use Rattle.numbers.specs.Laws.Padding.{set-padded}
 use Rattle.numbers.specs.Laws.Selections.{flatMap-append}
 use Rattle.cascade.specs.Plan.{noCell}
 use Rattle.cascade.specs.declared.Cell.{Cell}
-use Rattle.exports_cascade.specs.Given.{cellRow}
+use Rattle.cell_rows.specs.Rows.{cellRow}
 
 -- A row of 60 places whose first so many hold these numbers, and 0 behind them.
 record Filled (row l : List ℕ) (at : ℕ) : Type 0 where

@@ -1,11 +1,11 @@
 // Cells as rows of numbers.
 ghost use mathlib.Core.Path.{_≡_};
 ghost use mathlib.Core.List.{flatMap};
-ghost use Rattle.exports_cascade.specs.Given.{cellRow};
+ghost use Rattle.cell_rows.specs.Rows.{cellRow};
 use cascade::Cell;
 
 // Five numbers for each cell: group, incoming count, outgoing count, weight width, bits.
-pub(crate) fn cell_rows(cells: [Cell; 12]) -> [usize; 60]
+pub fn cell_rows(cells: [Cell; 12]) -> [usize; 60]
     ensures { λ r. ⌜ r ≡ flatMap cellRow cells ⌝ }
 {
     let mut rows = [0usize; 60];

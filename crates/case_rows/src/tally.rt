@@ -1,7 +1,7 @@
 // The count of the cases.
 use libc::STDOUT_FILENO;
 
-pub(crate) struct Tally {
+pub struct Tally {
     pub passed: u64,
     pub failed: u64,
 }

@@ -1,13 +1,13 @@
--- `diagram::records::node_room` meets its contract. Assumes nothing.
+-- `records::node_room` meets its contract. Assumes nothing.
 use Prim.Native.Nat.{_-_, _*_}
 use mathlib.Core.Path.{ap}
 use native.Mathlib.Omega.{arith}
 use lib.Pow.{pow-pos, pow-mono}
 use borrow.Author.Needs.{needs}
 use Rattle.diagram.specs.Build.{nodeRoom}
 use Rattle.diagram.specs.Records.{recordSize}
-use Rattle.diagram.proofs.records.node_room.Statement.{statement}
-use Rattle.diagram.proofs.records.node_room.Tie as tie
+use Rattle.records.proofs.node_room.Statement.{statement}
+use Rattle.records.proofs.node_room.Tie as tie
 
 power-requires : tie.Need-power-requires
 power-requires c κs = search needs

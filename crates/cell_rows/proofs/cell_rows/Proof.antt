@@ -1,4 +1,4 @@
--- `exports_cascade::rows::cell_rows` meets its contract. The loop's invariant: the rows of the cells so far. Assumes nothing.
+-- `cell_rows::cell_rows` meets its contract. The loop's invariant: the rows of the cells so far. Assumes nothing.
 use Prim.Native.Nat.{_-_}
 use mathlib.Core.Path.{_≡_}
 use native.Mathlib.Omega.{arith}
@@ -6,9 +6,9 @@ use lib.ListN.{length}
 use mir.Facts.{fits-of-lt}
 use Rattle.numbers.specs.Lists.{padded}
 use Rattle.cascade.specs.Plan.{noCell}
-use Rattle.exports_cascade.specs.Laws.Rows.{RowsTo, no-rows, row-more, all-rows}
-use Rattle.exports_cascade.proofs.rows.cell_rows.Statement.{statement}
-use Rattle.exports_cascade.proofs.rows.cell_rows.Tie as tie
+use Rattle.cell_rows.specs.Laws.Rows.{RowsTo, no-rows, row-more, all-rows}
+use Rattle.cell_rows.proofs.cell_rows.Statement.{statement}
+use Rattle.cell_rows.proofs.cell_rows.Tie as tie
 
 abbrev Inv-loop : tie.InvT-loop
 Inv-loop cells rows₀ k₀ rows k = RowsTo cells k rows

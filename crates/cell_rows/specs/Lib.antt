@@ -1,0 +1,3 @@
+-- Cells as numbers in a row, for the C interface. Laws has what is proved of them.
+pub mod Rows
+pub mod Laws

@@ -1,9 +1,9 @@
 -- `numbers::magnitude` meets its contract, by the weight's sign. Assumes nothing.
-use mathlib.Core.Path.{_≡_, _∙_, ap}
+use mathlib.Core.Path.{_≡_, sym, _∙_, ap, subst}
 use lib.IntN.{pos, negsuc, natAbs, _-ℤ_}
 use lib.Signed.{mag}
 use mir.Syntax.{w32}
-use mir.Val.{ofZ, toZ}
+use mir.Val.{SFits, ofZ, toZ}
 use mir.Facts.{toZ-ofZ}
 use Rattle.numbers.specs.Laws.Machine.{complement, not-negative, magnitude-signed, magnitude-back, magnitude-fits, cast-back}
 use Rattle.numbers.proofs.magnitude.Statement.{statement}
@@ -22,7 +22,7 @@ positive-back : (c : tie.Else1) → toZ w32 (ofZ w32 (c .before .args .weight)) 
 positive-back c = let back = toZ-ofZ (c .before .fits .weight) in back ∙ not-negative (c .before .args .weight) (rw back at (c .if1 .left))
 
 sub-result : tie.Need-sub-result
-sub-result c = rw (negative c) (magnitude-signed w32 (c .before .args .weight) (c .before .fits .weight))
+sub-result c = subst (SFits w32) (sym (negative c)) (magnitude-signed w32 (c .before .args .weight) (c .before .fits .weight))
 
 cast-result : tie.Need-cast-result
 cast-result c = cast-back w32 _ (mag (c .before .args .weight)) (negative-back c) (magnitude-fits w32 (c .before .args .weight) (c .before .fits .weight))

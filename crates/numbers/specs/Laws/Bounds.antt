@@ -1,14 +1,23 @@
 -- Bounds of integers: tests of range passed, and differences of values.
 use Prim.Native.Nat.{ℕ, zero, suc, _+_, _≤_, max}
 use mathlib.Core.Path.{_≡_, refl}
-use mathlib.Core.Bool.{true}
+use mathlib.Core.Bool.{true, false}
 use native.Mathlib.Omega.{arith}
 use lib.Dec.{leb, ltb}
 use lib.IntN.{ℤ, pos, negsuc, natAbs, subℕ, _-ℤ_}
-use lib.Signed.{mag}
+use lib.Signed.{mag, leZ}
 use borrow.Author.Tests.{leb-true, le-leb, ltb-true, ltb-false}
 use Rattle.numbers.specs.Ranges.{within, isValue, isWeight}
 use Rattle.numbers.specs.Laws.Bools.{yes-or-no, both, and-both}
+
+-- From the low end on the high end decides; below it nothing lies within.
+pub within-from : (low high z : ℤ) → leZ low z ≡ true → within low high z ≡ leZ z high
+unfolding within
+within-from low high z e = rw e
+
+pub within-below : (low high z : ℤ) → leZ low z ≡ false → within low high z ≡ false
+unfolding within
+within-below low high z e = rw e
 
 -- A natural number up to a bound.
 pub within-pos : (bound a : ℕ) → a ≤ bound → within (pos 0) (pos bound) (pos a) ≡ true

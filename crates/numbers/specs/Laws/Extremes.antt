@@ -52,6 +52,23 @@ leZ-antisym (negsuc a) (negsuc b) h k = ap negsuc (le-antisymm (leb-true a b k) 
 
 -- ---- the lesser and the greater
 
+-- Which of the two each of them is.
+pub lesser-first : (a b : ℤ) → leZ a b ≡ true → lesser a b ≡ a
+unfolding lesser
+lesser-first a b e = rw e
+
+pub lesser-second : (a b : ℤ) → leZ a b ≡ false → lesser a b ≡ b
+unfolding lesser
+lesser-second a b e = rw e
+
+pub greater-first : (a b : ℤ) → leZ a b ≡ false → greater a b ≡ a
+unfolding greater
+greater-first a b e = rw e
+
+pub greater-second : (a b : ℤ) → leZ a b ≡ true → greater a b ≡ b
+unfolding greater
+greater-second a b e = rw e
+
 pub lesser-left : (a b : ℤ) → leZ (lesser a b) a ≡ true
 unfolding lesser
 lesser-left a b = yes-or-no (leZ a b) (λ e. rw e (leZ-refl a)) (λ e. rw e (leZ-turn a b e))

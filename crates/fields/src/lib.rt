@@ -3,7 +3,7 @@ ghost use mathlib.Core.List.{[], _∷_, _++_};
 ghost use Prim.Native.Nat.{_+_, _^_, _≤_, _<_};
 ghost use lib.ListN.{length};
 ghost use lib.IntN.{pos};
-ghost use Rattle.lines.specs.Text.{fields};
+ghost use Rattle.lines.specs.Text.{fields, line};
 ghost use Rattle.lines.specs.Inner.Writing.{Writes, field};
 
 // Bytes at a place. Answers the place behind them.
@@ -60,4 +60,12 @@ pub fn write_count(text: &mut [u8], at: usize, word: &[u8], count: usize) -> usi
 {
     let numbers = [count as i32];
     write_line(text, at, word, &numbers)
+}
+
+// The line of a refusal, in front. Answers its length.
+pub fn write_refusal(text: &mut [u8], number: u8) -> usize
+    requires { ⌜ length (line "refused" (pos number ∷ [])) ≤ length (now text) ⌝ }
+    ensures { λ r. ⌜ Writes (now (text .entry)) 0 (line "refused" (pos number ∷ [])) r (now (text .exit)) ⌝ }
+{
+    write_count(text, 0, b"refused", number as usize)
 }

@@ -7,13 +7,9 @@ ghost use lib.ListN.{length};
 ghost use Rattle.numbers.specs.Inner.Rows.{overwritten};
 ghost use Rattle.cascade.specs.Plan.{plan};
 ghost use Rattle.listing.specs.Listing.{tableOf, answerText, listing};
-ghost use Rattle.listing.specs.Program.{textRoom, Lists};
+ghost use Rattle.listing.specs.Program.{textRoom};
 ghost use Rattle.lister.specs.Inner.Listed.{InputCounted};
 ghost use Rattle.lines.specs.Inner.Writing.{Writes};
-use listing::Listed;
-
-// The bytes of a buffer that holds the text of every input.
-const TEXT_ROOM: usize = 225943;
 
 // The text of an input with as many values as n asks for, which are read into the lent row. Answers its length.
 fn list_values(input: &[u8], n: usize, limit: usize, values: &mut [i32], text: &mut [u8]) -> usize
@@ -32,29 +28,17 @@ pub fn list_input(input: &[u8], text: &mut [u8]) -> usize
     ensures { λ r. ⌜ Writes (now (text .entry)) 0 (listing (now (input .entry))) r (now (text .exit)) ⌝ }
 {
     if input.len() < 2 {
-        return texts::write_refusal(text, 2);
+        return fields::write_refusal(text, 2);
     }
     let n = input[0] as usize;
     let limit = input[1] as usize;
     if !numbers::is_variables(n) {
-        return texts::write_refusal(text, 1);
+        return fields::write_refusal(text, 1);
     }
     let count = numbers::power(n);
     if input.len() != 2 + 4 * count {
-        return texts::write_refusal(text, 2);
+        return fields::write_refusal(text, 2);
     }
     let mut values = [0i32; 4096];
     list_values(input, n, limit, &mut values, text)
-}
-
-// The listing program's text for an input, written into the lent buffer where that holds the text of every input.
-pub fn list(input: &[u8], text: &mut [u8]) -> Listed
-    ensures { λ r. ⌜ Lists (now (input .entry)) (now (text .entry)) r (now (text .exit)) ⌝ }
-{
-    if text.len() < TEXT_ROOM {
-        return Listed::TooShort;
-    }
-    Listed::Text {
-        length: list_input(input, text),
-    }
 }

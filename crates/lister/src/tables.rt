@@ -24,10 +24,10 @@ fn write_table(
 {
     let mut nodes = [0i32; 16380];
     match builder::build(n, table, &mut nodes) {
-        diagram::Built::Refused(number) => texts::write_refusal(text, number),
+        diagram::Built::Refused(number) => fields::write_refusal(text, number),
         diagram::Built::Diagram { nodes: all, offset } => {
-            let next = texts::write_diagram(text, n, offset, &nodes, all - 1);
-            texts::write_cascade(text, next, cells, count, bits)
+            let next = node_lines::write_diagram(text, n, offset, &nodes, all - 1);
+            cell_lines::write_cascade(text, next, cells, count, bits)
         }
     }
 }
@@ -41,7 +41,7 @@ pub(crate) fn list_table(n: usize, table: &[i32], limit: usize, text: &mut [u8])
     let verdict = planned.verdict;
     let list = planned.cells;
     match verdict {
-        Verdict::Refused(number) => texts::write_refusal(text, number),
+        Verdict::Refused(number) => fields::write_refusal(text, number),
         Verdict::Grouping { cells, bits } => write_table(n, table, list, cells, bits, text),
     }
 }

@@ -20,7 +20,7 @@ use Rattle.diagram.specs.Laws.Builds.{build-answered}
 use Rattle.diagram.specs.Laws.Numbering.{written-length, records-room}
 use Rattle.diagram.specs.declared.Built.{Built}
 use Rattle.diagram.specs.declared.Built.the-variants.{Diagram, Refused}
-use Rattle.diagram.specs.Walk.{numberAt, variableAt, lowAt, highAt, weightAt}
+use Rattle.diagram.specs.Walk.{numberAt, variableAt, lowAt, highAt, weightAt, recordCount}
 use Rattle.image.specs.Cells.{Cell, totalBits}
 use Rattle.image.specs.Reader.{mostClasses}
 use Rattle.cascade.specs.Cascade.{cellsFrom}
@@ -39,29 +39,30 @@ use Rattle.lines.specs.Text.{ascii, line}
 use Rattle.lister.specs.Inner.Listed.{TextReady}
 use Rattle.listing.specs.Program.{textRoom}
 use Rattle.listing.specs.Laws.Lengths.{line-length, count-field}
-use Rattle.texts.specs.Inner.Lines.{recordLine, recordLines, planLine, planLines, diagramText, cascadeText, RecordsThere, CellSmall, CellsSmall}
+use Rattle.node_lines.specs.Inner.Lines.{recordLine, recordLines, diagramText, RecordsThere}
+use Rattle.cell_lines.specs.Inner.Lines.{planLine, planLines, cascadeText, CellSmall, CellsSmall}
 
 -- ---- node lines
 
 -- The records from place m on stand in a buffer: their lines are those of the buffer's records.
-node-lines-from : (rs : List Record) (list rest : List ℤ) (m : ℕ) → drop (4 * m) list ≡ flatMap recordNumbers rs ++ rest → nodeLines (suc m) rs ≡ flatMap (recordLine list) (numbersFrom (suc m) (length rs))
+node-lines-from : (rs : List Record) (list rest : List ℤ) (m : ℕ) → drop (recordSize * m) list ≡ flatMap recordNumbers rs ++ rest → nodeLines (suc m) rs ≡ flatMap (recordLine list) (numbersFrom (suc m) (length rs))
 unfolding nodeLines nodeLine flatMap numbersFrom recordLine variableAt lowAt highAt weightAt numberAt recordSize recordNumbers
 node-lines-from [] list rest m e = refl
 node-lines-from (r ∷ rs) list rest m e = ap₂ (λ here more. here ++ more) (sym here) (node-lines-from rs list rest (suc m) later)
   where
-    entry : (c : ℕ) → getD list (4 * (suc m - 1) + c) (pos 0) ≡ getD (recordNumbers r ++ (flatMap recordNumbers rs ++ rest)) c (pos 0)
-    entry c = ap (λ k. getD list (4 * k + c) (pos 0)) (let one : suc m - 1 ≡ m = omega arith in one) ∙ sym (getD-drop (4 * m) list c (pos 0)) ∙ ap (λ l. getD l c (pos 0)) e
+    entry : (c : ℕ) → numberAt list (suc m) c ≡ getD (recordNumbers r ++ (flatMap recordNumbers rs ++ rest)) c (pos 0)
+    entry c = ap (λ k. getD list (recordSize * k + c) (pos 0)) (let one : suc m - 1 ≡ m = omega arith in one) ∙ sym (getD-drop (recordSize * m) list c (pos 0)) ∙ ap (λ l. getD l c (pos 0)) e
 
     here : recordLine list (suc m) ≡ nodeLine (suc m) r
     here = rw (entry 0, entry 1, entry 2, entry 3)
 
-    later : drop (4 * suc m) list ≡ flatMap recordNumbers rs ++ rest
-    later = ap (λ k. drop k list) (let four : 4 * suc m ≡ 4 * m + 4 = omega arith in four) ∙ sym (drop-drop 4 (4 * m) list) ∙ ap (drop 4) e
+    later : drop (recordSize * suc m) list ≡ flatMap recordNumbers rs ++ rest
+    later = ap (λ k. drop k list) (let more : recordSize * suc m ≡ recordSize * m + recordSize = omega arith in more) ∙ sym (drop-drop recordSize (recordSize * m) list) ∙ ap (drop recordSize) e
 
 -- What Build writes for a table, in front of a buffer: the node lines are those of its records.
 module _ (n : ℕ) (table nodes rest : List ℤ) (e : nodes ≡ written n table ++ rest) where
   pub diagram-text : diagramText n (offset table) nodes (length (records n table)) ≡ line "table" (pos n ∷ offset table ∷ []) ++ nodeLines 1 (records n table) ++ line "nodes" (pos (nodeCount n table) ∷ [])
-  unfolding diagramText recordLines nodeCount
+  unfolding diagramText recordLines nodeCount recordSize
   diagram-text =
       ap₂ (λ lines count. line "table" (pos n ∷ offset table ∷ []) ++ lines ++ line "nodes" (pos count ∷ []))
       (sym (node-lines-from (records n table) nodes rest 0 e))
@@ -97,7 +98,7 @@ module _ (n : ℕ) (table buffer nodes : List ℤ) (answer : Built) (a : Accepte
 
   -- They are as many as the answer says, and few.
   pub records-there : RecordsThere nodes (length (records n table))
-  unfolding recordSize
+  unfolding recordCount recordSize
   records-there =
       let count = written-length n table in
       let all = ap length records-left ∙ length-append (written n table) (drop (recordSize * (nodeCount n table - 1)) buffer) in

@@ -13,7 +13,8 @@ use Rattle.diagram.specs.Records.{records, offset}
 use Rattle.cascade.specs.Laws.Cells.{variables-most}
 use Rattle.cascade.specs.Inner.Planned.{groups}
 use Rattle.listing.specs.Listing.{tableText}
-use Rattle.texts.specs.Inner.Lines.{diagramText, cascadeText, RecordsThere}
+use Rattle.node_lines.specs.Inner.Lines.{diagramText, RecordsThere}
+use Rattle.cell_lines.specs.Inner.Lines.{cascadeText}
 use Rattle.listing.specs.Program.{textRoom}
 use Rattle.lines.specs.Inner.Writing.{Writes}
 use Rattle.listing.specs.Laws.Lengths.{table-text-length}

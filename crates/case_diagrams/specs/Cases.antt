@@ -1,5 +1,4 @@
 -- When a case of Build or Walk passes, by the definition of the operation. What the numbers of a case are stands in the crate checks.
-use Prim.Native.Nat.{ℕ}
 use mathlib.Core.Bool.{Bool, _&&_}
 use mathlib.Core.List.{List}
 use lib.ListN.{getD, replicate}

@@ -8,8 +8,8 @@ use lib.IntN.{ℤ}
 use Rattle.case_rows.specs.Rows.{sizeAt}
 use Rattle.case_rows.specs.Text.{lineNumbers}
 use Rattle.case_diagrams.specs.Cases.{buildPasses, walkPasses}
-use Rattle.case_cascades.specs.Cases.{planPasses, compilePasses}
 use Rattle.case_images.specs.Cases.{runPasses, expandPasses}
+use Rattle.case_cascades.specs.Cases.{planPasses, compilePasses}
 
 -- Whether a case passes as one of each operation, by its number; there is none with the number 0.
 unfoldable pub operationsPass : List ℤ → List ℤ → List ℤ → List ℤ → List Bool

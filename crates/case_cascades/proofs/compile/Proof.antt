@@ -8,13 +8,13 @@ use lib.ListN.{length, take, replicate}
 use lib.Seq.{length-take-le, take-at}
 use lib.IntN.{ℤ, pos}
 use borrow.Author.Tests.{not-true, not-false}
+use borrow.Author.Needs.{needs}
 use Rattle.cascade.specs.Compile.{outcome}
 use Rattle.cell_rows.specs.Rows.{cellRow}
 use Rattle.case_rows.specs.Rows.{byteLent, frontHolds, sizesAre}
 use Rattle.case_rows.specs.Laws.Tests.{passed, failed, lent-front, front-within, front-length}
 use Rattle.case_cascades.specs.Cases.{outcomeIs, compilePasses}
 use Rattle.case_cascades.specs.Laws.Cases.{compile-too-many, compile-judged}
-use borrow.Author.Needs.{needs}
 use Rattle.case_cascades.proofs.compile.Statement.{statement}
 use Rattle.case_cascades.proofs.compile.Tie as tie
 

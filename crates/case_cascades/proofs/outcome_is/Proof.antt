@@ -4,11 +4,11 @@ use mathlib.Core.Bool.{_&&_}
 use mathlib.Core.List.{List}
 use lib.Dec.{eqb}
 use lib.IntN.{ℤ}
+use borrow.Author.Needs.{needs}
 use Rattle.cascade.specs.Compile.{outcome}
 use Rattle.case_rows.specs.Rows.{sizeAt, answerIs}
 use Rattle.case_rows.specs.Laws.Tests.{passed, failed, is-size, not-size}
 use Rattle.case_cascades.specs.Cases.{outcomeIs}
-use borrow.Author.Needs.{needs}
 use Rattle.case_cascades.proofs.outcome_is.Statement.{statement}
 use Rattle.case_cascades.proofs.outcome_is.Tie as tie
 

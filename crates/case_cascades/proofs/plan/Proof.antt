@@ -4,13 +4,13 @@ use mathlib.Core.Bool.{_&&_}
 use mathlib.Core.List.{List, flatMap}
 use lib.IntN.{ℤ}
 use borrow.Author.Tests.{not-true, not-false}
+use borrow.Author.Needs.{needs}
 use Rattle.cascade.specs.Plan.{judgement}
 use Rattle.cell_rows.specs.Rows.{cellRow}
 use Rattle.case_rows.specs.Rows.{sizesAre}
 use Rattle.case_rows.specs.Laws.Tests.{passed, failed}
 use Rattle.case_cascades.specs.Cases.{verdictIs, planPasses}
 use Rattle.case_cascades.specs.Laws.Cases.{plan-judged}
-use borrow.Author.Needs.{needs}
 use Rattle.case_cascades.proofs.plan.Statement.{statement}
 use Rattle.case_cascades.proofs.plan.Tie as tie
 

@@ -1,11 +1,11 @@
 -- `case_cascades::verdict_is` meets its contract, number by number. Assumes nothing.
 use mathlib.Core.Path.{sym, _∙_, ap}
 use lib.Dec.{eqb}
+use borrow.Author.Needs.{needs}
 use Rattle.cascade.specs.Plan.{judgement}
 use Rattle.case_rows.specs.Rows.{answerIs}
 use Rattle.case_rows.specs.Laws.Tests.{passed, failed, is-size, not-size}
 use Rattle.case_cascades.specs.Cases.{verdictIs}
-use borrow.Author.Needs.{needs}
 use Rattle.case_cascades.proofs.verdict_is.Statement.{statement}
 use Rattle.case_cascades.proofs.verdict_is.Tie as tie
 

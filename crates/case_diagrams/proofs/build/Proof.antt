@@ -8,12 +8,12 @@ use lib.ListN.{length, take, replicate}
 use lib.Seq.{length-take-le, take-at}
 use lib.IntN.{ℤ}
 use borrow.Author.Tests.{not-true, not-false}
+use borrow.Author.Needs.{needs}
 use Rattle.diagram.specs.Build.{built}
 use Rattle.case_rows.specs.Rows.{numberLent, frontHolds}
 use Rattle.case_rows.specs.Laws.Tests.{passed, failed, lent-front, front-within, front-length}
 use Rattle.case_diagrams.specs.Cases.{builtIs, buildPasses}
 use Rattle.case_diagrams.specs.Laws.Cases.{build-too-many, build-judged}
-use borrow.Author.Needs.{needs}
 use Rattle.case_diagrams.proofs.build.Statement.{statement}
 use Rattle.case_diagrams.proofs.build.Tie as tie
 

@@ -1,15 +1,15 @@
 -- `case_diagrams::built_is` meets its contract, number by number. Assumes nothing.
-use mathlib.Core.Path.{_≡_, sym, _∙_, ap}
+use mathlib.Core.Path.{sym, _∙_, ap}
 use lib.Dec.{eqb}
 use lib.ListN.{getD}
 use lib.IntN.{pos}
 use mir.Facts.{toZ-ofZ}
+use borrow.Author.Needs.{needs}
 use Rattle.numbers.specs.Ranges.{eqZ}
 use Rattle.diagram.specs.Build.{built}
 use Rattle.case_rows.specs.Rows.{answerIs}
 use Rattle.case_rows.specs.Laws.Tests.{passed, failed, is-size, not-size}
 use Rattle.case_diagrams.specs.Cases.{builtIs}
-use borrow.Author.Needs.{needs}
 use Rattle.case_diagrams.proofs.built_is.Statement.{statement}
 use Rattle.case_diagrams.proofs.built_is.Tie as tie
 

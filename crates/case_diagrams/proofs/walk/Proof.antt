@@ -4,13 +4,13 @@ use lib.Dec.{eqb}
 use lib.ListN.{getD}
 use lib.IntN.{pos}
 use mir.Facts.{toZ-ofZ}
+use borrow.Author.Needs.{needs}
 use Rattle.numbers.specs.Ranges.{eqZ}
 use Rattle.diagram.specs.Walk.{walk, walked}
 use Rattle.diagram.specs.declared.Walked.{Walked}
 use Rattle.case_rows.specs.Rows.{sizeAt, answerIs}
 use Rattle.case_rows.specs.Laws.Tests.{passed, failed, is-size, not-size}
 use Rattle.case_diagrams.specs.Cases.{walkPasses}
-use borrow.Author.Needs.{needs}
 use Rattle.case_diagrams.proofs.walk.Statement.{statement}
 use Rattle.case_diagrams.proofs.walk.Tie as tie
 

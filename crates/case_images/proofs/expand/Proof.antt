@@ -8,13 +8,13 @@ use lib.ListN.{length, take, replicate, length-map}
 use lib.Seq.{length-take-le, take-at}
 use lib.IntN.{ℤ}
 use borrow.Author.Tests.{not-true, not-false}
+use borrow.Author.Needs.{needs}
 use Rattle.image.specs.Run.{expanded}
 use Rattle.case_rows.specs.Rows.{byteOf, numberLent, frontHolds}
 use Rattle.case_rows.specs.Laws.Rows.{bytes-front}
 use Rattle.case_rows.specs.Laws.Tests.{passed, failed, lent-front, front-within, front-length}
 use Rattle.case_images.specs.Cases.{expandedIs, expandPasses}
 use Rattle.case_images.specs.Laws.Cases.{expand-too-long, expand-too-many, expand-judged}
-use borrow.Author.Needs.{needs}
 use Rattle.case_images.proofs.expand.Statement.{statement}
 use Rattle.case_images.proofs.expand.Tie as tie
 

@@ -1,11 +1,11 @@
 -- `case_images::expanded_is` meets its contract. Assumes nothing.
 use mathlib.Core.Path.{sym, _∙_, ap}
-use mathlib.Core.Bool.{true, _&&_, and-true}
+use mathlib.Core.Bool.{and-true}
 use lib.Dec.{eqb}
+use borrow.Author.Needs.{needs}
 use Rattle.image.specs.Run.{expanded}
 use Rattle.case_rows.specs.Rows.{sizeAt, answerIs}
 use Rattle.case_images.specs.Cases.{expandedIs}
-use borrow.Author.Needs.{needs}
 use Rattle.case_images.proofs.expanded_is.Statement.{statement}
 use Rattle.case_images.proofs.expanded_is.Tie as tie
 

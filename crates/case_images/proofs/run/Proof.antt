@@ -1,11 +1,11 @@
 -- `case_images::run` meets its contract, number by number. Assumes nothing.
-use Prim.Native.Nat.{_≤_}
 use mathlib.Core.Path.{_≡_, sym, _∙_, ap}
 use mathlib.Core.List.{List, map}
 use lib.ListN.{length, getD, take, length-map}
 use lib.Dec.{eqb}
 use lib.IntN.{ℤ, pos}
 use mir.Facts.{toZ-ofZ}
+use borrow.Author.Needs.{needs}
 use Rattle.numbers.specs.Ranges.{eqZ}
 use Rattle.image.specs.Run.{ran}
 use Rattle.image.specs.declared.Ran.{Ran}
@@ -14,7 +14,6 @@ use Rattle.case_rows.specs.Laws.Rows.{bytes-front}
 use Rattle.case_rows.specs.Laws.Tests.{passed, failed, is-size, not-size}
 use Rattle.case_images.specs.Cases.{ranIs, runPasses}
 use Rattle.case_images.specs.Laws.Cases.{run-too-long, run-judged}
-use borrow.Author.Needs.{needs}
 use Rattle.case_images.proofs.run.Statement.{statement}
 use Rattle.case_images.proofs.run.Tie as tie
 

@@ -2,14 +2,13 @@
 use Prim.Native.Nat.{ℕ, zero, suc, _+_, _-_, _≤_, _<_}
 use mathlib.Core.Path.{_≡_, refl, sym, _∙_, ap, ap₂}
 use mathlib.Core.Bool.{true, false, _&&_, false≢true}
-use mathlib.Core.List.{List, [], _∷_, _++_, map}
+use mathlib.Core.List.{List, [], _∷_, map}
 use native.Mathlib.Numerals.{add-one}
 use native.Mathlib.Omega.{arith}
 use lib.ListN.{length, getD, take, drop, set, replicate, length-append, length-map, List·getD-eq-default}
 use lib.Seq.{drop-cons, take-suc, length-take-le, take-all, take-at}
 use lib.Dec.{ltb, eqb}
 use lib.IntN.{ℤ, pos}
-use lib.Signed.{mag}
 use mir.Syntax.{w32}
 use mir.Val.{SFits, ofZ}
 use borrow.Author.Tests.{ltb-true, ltb-false, eq-eqb, ne-eqb}
@@ -25,7 +24,7 @@ use Rattle.numbers.specs.Laws.Rows.{overwritten-none, overwritten-front}
 use Rattle.numbers.specs.Laws.Written.{length-kept, stored-behind}
 use Rattle.blocks.specs.Classes.{same}
 use Rattle.blocks.specs.Laws.Comparing.{unlike-lengths, all-equal}
-use Rattle.case_rows.specs.Rows.{sizeAt, byteOf, frontHolds, sizesAre}
+use Rattle.case_rows.specs.Rows.{byteOf, frontHolds}
 
 -- ---- a row and what it should hold, from the left
 

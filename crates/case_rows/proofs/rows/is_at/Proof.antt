@@ -2,9 +2,9 @@
 use mathlib.Core.Path.{_∙_, ap}
 use lib.ListN.{getD}
 use mir.Facts.{toZ-ofZ}
+use borrow.Author.Needs.{needs}
 use Rattle.numbers.specs.Ranges.{eqZ}
 use Rattle.case_rows.specs.Laws.Rows.{bits-test}
-use borrow.Author.Needs.{needs}
 use Rattle.case_rows.proofs.rows.is_at.Statement.{statement}
 use Rattle.case_rows.proofs.rows.is_at.Tie as tie
 

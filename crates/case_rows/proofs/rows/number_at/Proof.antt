@@ -3,8 +3,8 @@ use mathlib.Core.Path.{sym, _∙_}
 use lib.ListN.{List·getD-eq-default}
 use lib.IntN.{pos}
 use mir.Facts.{toZ-ofZ}
-use Rattle.case_rows.specs.Laws.Rows.{inside-row}
 use borrow.Author.Needs.{needs}
+use Rattle.case_rows.specs.Laws.Rows.{inside-row}
 use Rattle.case_rows.proofs.rows.number_at.Statement.{statement}
 use Rattle.case_rows.proofs.rows.number_at.Tie as tie
 

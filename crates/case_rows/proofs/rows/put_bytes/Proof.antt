@@ -1,13 +1,13 @@
 -- `case_rows::rows::put_bytes` meets its contract. The loop's invariant: the bytes so far stand in front. Assumes nothing.
 use Prim.Native.Nat.{_-_, _%_}
 use mathlib.Core.Path.{_≡_, _∙_, ap}
+use native.Mathlib.Omega.{arith}
 use lib.ListN.{length, getD}
 use lib.IntN.{pos}
 use lib.Signed.{mag}
 use mir.Syntax.{w32}
 use mir.Val.{SFits}
 use mir.Facts.{toZ-ofZ}
-use native.Mathlib.Omega.{arith}
 use borrow.Author.Needs.{needs}
 use Rattle.case_rows.specs.Rows.{byteOf}
 use Rattle.case_rows.specs.Laws.Rows.{BytesTo, no-bytes, bytes-kept, one-byte, all-bytes}

@@ -2,8 +2,8 @@
 use mathlib.Core.Path.{_∙_, ap}
 use lib.Signed.{mag}
 use mir.Facts.{toZ-ofZ}
-use Rattle.case_rows.specs.Rows.{sizeAt}
 use borrow.Author.Needs.{needs}
+use Rattle.case_rows.specs.Rows.{sizeAt}
 use Rattle.case_rows.proofs.rows.size_at.Statement.{statement}
 use Rattle.case_rows.proofs.rows.size_at.Tie as tie
 

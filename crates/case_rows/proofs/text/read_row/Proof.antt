@@ -3,12 +3,12 @@
 use Prim.Native.Nat.{ℕ, _-_}
 use mathlib.Core.Path.{_≡_, sym, _∙_, subst}
 use mathlib.Core.List.{List}
-use borrow.Author.Needs.{needs}
 use native.Mathlib.Nat.{le-refl}
 use native.Mathlib.Omega.{arith}
 use lib.ListN.{length}
 use mir.Syntax.{w32}
 use mir.Val.{ofZ, toZ}
+use borrow.Author.Needs.{needs}
 use Rattle.decimal.specs.declared.Item.{Item}
 use Rattle.decimal.specs.Laws.Items.{Seen, item-seen}
 use Rattle.decimal.specs.Laws.Places.{start-place}

@@ -1,8 +1,8 @@
 -- `checks::judging::judge` meets its contract: the numbers are as many as they say, and the rows decide. Assumes nothing.
 use mathlib.Core.Path.{sym, _∙_}
 use native.Mathlib.Omega.{arith}
-use Rattle.checks.specs.Laws.Cases.{other-length, rows-judged}
 use borrow.Author.Needs.{needs}
+use Rattle.checks.specs.Laws.Cases.{other-length, rows-judged}
 use Rattle.checks.proofs.judging.judge.Statement.{statement}
 use Rattle.checks.proofs.judging.judge.Tie as tie
 

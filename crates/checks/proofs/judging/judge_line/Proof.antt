@@ -1,14 +1,14 @@
 -- `checks::judging::judge_line` meets its contract: the numbers that were read decide. Assumes nothing.
 use Prim.Native.Nat.{_≤_}
-use mathlib.Core.Path.{_≡_, sym, _∙_, ap}
+use mathlib.Core.Path.{sym, _∙_, ap}
 use native.Mathlib.Omega.{arith}
 use lib.ListN.{length, length-replicate}
 use lib.Seq.{length-take-le}
 use lib.IntN.{pos}
+use borrow.Author.Needs.{needs}
 use Rattle.case_rows.specs.Text.{lineNumbers}
 use Rattle.case_rows.specs.Laws.Text.{count-within, row-taken}
 use Rattle.checks.specs.Cases.{casePasses, linePasses}
-use borrow.Author.Needs.{needs}
 use Rattle.checks.proofs.judging.judge_line.Statement.{statement}
 use Rattle.checks.proofs.judging.judge_line.Tie as tie
 

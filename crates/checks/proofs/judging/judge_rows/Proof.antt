@@ -2,9 +2,9 @@
 use mathlib.Core.Path.{sym, _∙_, ap}
 use mathlib.Core.Bool.{false}
 use lib.ListN.{getD}
+use borrow.Author.Needs.{needs}
 use Rattle.checks.specs.Cases.{operationsPass, rowsPass}
 use Rattle.checks.specs.Laws.Cases.{other-operation}
-use borrow.Author.Needs.{needs}
 use Rattle.checks.proofs.judging.judge_rows.Statement.{statement}
 use Rattle.checks.proofs.judging.judge_rows.Tie as tie
 

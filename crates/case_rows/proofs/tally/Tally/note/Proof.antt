@@ -1,7 +1,7 @@
 -- `case_rows::tally::Tally::note` meets its contract. Assumes nothing.
 use mathlib.Core.Path.{sym, _∙_, ap}
-use Rattle.case_rows.specs.Tallies.{noted}
 use borrow.Author.Needs.{needs}
+use Rattle.case_rows.specs.Tallies.{noted}
 use Rattle.case_rows.proofs.tally.Tally.note.Statement.{statement}
 use Rattle.case_rows.proofs.tally.Tally.note.Tie as tie
 

@@ -1,89 +1,101 @@
 // The cases of Plan and Compile.
 ghost use mathlib.Core.Path.{_≡_};
-ghost use lib.ListN.{length};
+ghost use Rattle.cascade.specs.Plan.{judgement};
+ghost use Rattle.cascade.specs.Compile.{outcome};
+ghost use Rattle.case_cascades.specs.Cases.{verdictIs, planPasses, outcomeIs, compilePasses};
 use cascade::Outcome;
 use cascade::Verdict;
 use case_rows::rows;
-use case_rows::rows::BYTE;
-use case_rows::rows::size;
 
-// Whether a verdict is the expected one.
+// Whether Plan's verdict is the expected one.
 fn verdict_is(numbers: &[i32], verdict: Verdict) -> bool
-    requires { ⌜ length (now numbers) ≡ 9 ⌝ }
+    ensures { λ r. ⌜ r ≡ verdictIs (now (numbers .entry)) (judgement verdict) ⌝ }
 {
+    let refusal = rows::size_at(numbers, 3);
     match verdict {
         Verdict::Grouping { cells, bits } => {
-            numbers[3] == 0 && cells == size(numbers[4]) && bits == size(numbers[5])
+            if refusal != 0 {
+                return false;
+            }
+            if rows::size_at(numbers, 4) != cells {
+                return false;
+            }
+            rows::size_at(numbers, 5) == bits
         }
-        Verdict::Refused(number) => number as usize == size(numbers[3]),
+        Verdict::Refused(number) => refusal == number as usize,
     }
 }
 
+// Whether Plan answers so, with these sizes and these cells, five numbers each.
 pub fn plan(numbers: &[i32], table: &[i32], sizes: &[i32], cells: &[i32]) -> bool
-    requires { ⌜ length (now numbers) ≡ 9 ⌝ }
+    ensures { λ r. ⌜ r ≡ planPasses (now (numbers .entry)) (now (table .entry)) (now (sizes .entry)) (now (cells .entry)) ⌝ }
 {
-    let planned = planner::plan(size(numbers[1]), table, size(numbers[2]));
+    let n = rows::size_at(numbers, 1);
+    let limit = rows::size_at(numbers, 2);
+    let planned = planner::plan(n, table, limit);
     let verdict = planned.verdict;
     if !verdict_is(numbers, verdict) {
         return false;
     }
     let chosen = planned.sizes;
+    if !rows::sizes_are(&chosen, sizes) {
+        return false;
+    }
     let list = planned.cells;
-    rows::sizes_are(&chosen, sizes) && rows::cells_are(list, cells)
+    let row = cell_rows::cell_rows(list);
+    rows::sizes_are(&row, cells)
 }
 
-// Whether an outcome is the expected one.
-fn outcome_is(numbers: &[i32], outcome: Outcome) -> bool
-    requires { ⌜ length (now numbers) ≡ 9 ⌝ }
+// Whether Compile's outcome is the expected one.
+fn outcome_is(numbers: &[i32], answer: Outcome) -> bool
+    ensures { λ r. ⌜ r ≡ outcomeIs (now (numbers .entry)) (outcome answer) ⌝ }
 {
-    match outcome {
+    let refusal = rows::size_at(numbers, 4);
+    match answer {
         Outcome::Image {
             length,
             nodes,
             cells,
             bits,
         } => {
-            if numbers[4] != 0 {
+            if refusal != 0 {
                 return false;
             }
-            if length != size(numbers[5]) {
+            if rows::size_at(numbers, 5) != length {
                 return false;
             }
-            if nodes != size(numbers[6]) {
+            if rows::size_at(numbers, 6) != nodes {
                 return false;
             }
-            cells == size(numbers[7]) && bits == size(numbers[8])
+            if rows::size_at(numbers, 7) != cells {
+                return false;
+            }
+            rows::size_at(numbers, 8) == bits
         }
-        Outcome::Refused(number) => number as usize == size(numbers[4]),
+        Outcome::Refused(number) => refusal == number as usize,
     }
 }
 
-// Whether Compile answers so, and leaves these bytes in front of the lent image.
-fn compile_in(
-    numbers: &[i32],
-    table: &[i32],
-    image: &mut [u8],
-    cells: &[i32],
-    front: &[i32],
-) -> bool
-    requires { ⌜ length (now numbers) ≡ 9 ⌝ }
+// Whether Compile answers so, with these cells, and leaves these bytes in front of the lent image.
+pub fn compile(numbers: &[i32], table: &[i32], cells: &[i32], front: &[i32]) -> bool
+    ensures { λ r. ⌜ r ≡ compilePasses (now (numbers .entry)) (now (table .entry)) (now (cells .entry)) (now (front .entry)) ⌝ }
 {
-    let compiled = compiler::compile(size(numbers[1]), table, size(numbers[2]), image);
-    let outcome = compiled.outcome;
-    if !outcome_is(numbers, outcome) {
+    let n = rows::size_at(numbers, 1);
+    let limit = rows::size_at(numbers, 2);
+    let places = rows::size_at(numbers, 3);
+    let mut lent = [rows::BYTE; 512];
+    if lent.len() < places {
+        return false;
+    }
+    let compiled = compiler::compile(n, table, limit, &mut lent[..places]);
+    let answer = compiled.outcome;
+    if !outcome_is(numbers, answer) {
         return false;
     }
     let list = compiled.cells;
-    rows::cells_are(list, cells) && rows::bytes_hold(image, front)
-}
-
-pub fn compile(numbers: &[i32], table: &[i32], cells: &[i32], front: &[i32]) -> bool
-    requires { ⌜ length (now numbers) ≡ 9 ⌝ }
-{
-    let mut image = [BYTE; 512];
-    let places = size(numbers[3]);
-    if image.len() < places {
+    let row = cell_rows::cell_rows(list);
+    if !rows::sizes_are(&row, cells) {
         return false;
     }
-    compile_in(numbers, table, &mut image[..places], cells, front)
+    rows::bytes_hold(&lent[..places], front)
 }

@@ -1,47 +1,62 @@
 // The cases of Build and Walk.
 ghost use mathlib.Core.Path.{_≡_};
-ghost use lib.ListN.{length};
+ghost use Rattle.diagram.specs.Build.{built};
+ghost use Rattle.case_diagrams.specs.Cases.{builtIs, buildPasses, walkPasses};
 use case_rows::rows;
-use case_rows::rows::NUMBER;
-use case_rows::rows::size;
 use diagram::Built;
 use diagram::Walked;
 
-// Whether Build answers so, and leaves these numbers in front of the lent row.
-fn build_in(numbers: &[i32], table: &[i32], lent: &mut [i32], front: &[i32]) -> bool
-    requires { ⌜ length (now numbers) ≡ 9 ⌝ }
+// Whether Build's answer is the expected one.
+fn built_is(numbers: &[i32], answer: Built) -> bool
+    ensures { λ r. ⌜ r ≡ builtIs (now (numbers .entry)) (built answer) ⌝ }
 {
-    match builder::build(size(numbers[1]), table, lent) {
+    let refusal = rows::size_at(numbers, 3);
+    match answer {
         Built::Diagram { nodes, offset } => {
-            if numbers[3] != 0 {
+            if refusal != 0 {
                 return false;
             }
-            if nodes != size(numbers[4]) {
+            if rows::size_at(numbers, 4) != nodes {
                 return false;
             }
-            offset == numbers[5] && rows::numbers_hold(lent, front)
+            rows::is_at(numbers, 5, 0, offset)
         }
-        Built::Refused(number) => number as usize == size(numbers[3])
-            && rows::numbers_hold(lent, front),
+        Built::Refused(number) => refusal == number as usize,
     }
 }
 
+// Whether Build answers so, and leaves these numbers in front of the lent row.
 pub fn build(numbers: &[i32], table: &[i32], front: &[i32]) -> bool
-    requires { ⌜ length (now numbers) ≡ 9 ⌝ }
+    ensures { λ r. ⌜ r ≡ buildPasses (now (numbers .entry)) (now (table .entry)) (now (front .entry)) ⌝ }
 {
-    let mut nodes = [NUMBER; 16380];
-    let places = size(numbers[2]);
-    if nodes.len() < places {
+    let n = rows::size_at(numbers, 1);
+    let places = rows::size_at(numbers, 2);
+    let mut lent = [rows::NUMBER; 16380];
+    if lent.len() < places {
         return false;
     }
-    build_in(numbers, table, &mut nodes[..places], front)
+    let answer = builder::build(n, table, &mut lent[..places]);
+    if !built_is(numbers, answer) {
+        return false;
+    }
+    rows::numbers_hold(&lent[..places], front)
 }
 
+// Whether Walk answers so.
 pub fn walk(numbers: &[i32], records: &[i32]) -> bool
-    requires { ⌜ length (now numbers) ≡ 9 ⌝ }
+    ensures { λ r. ⌜ r ≡ walkPasses (now (numbers .entry)) (now (records .entry)) ⌝ }
 {
-    match walker::walk(size(numbers[1]), numbers[2], records, size(numbers[3])) {
-        Walked::Value(value) => numbers[4] == 0 && value == numbers[5],
-        Walked::Refused(number) => number as usize == size(numbers[4]),
+    let n = rows::size_at(numbers, 1);
+    let offset = rows::number_at(numbers, 2, 0);
+    let x = rows::size_at(numbers, 3);
+    let refusal = rows::size_at(numbers, 4);
+    match walker::walk(n, offset, records, x) {
+        Walked::Value(value) => {
+            if refusal != 0 {
+                return false;
+            }
+            rows::is_at(numbers, 5, 0, value)
+        }
+        Walked::Refused(number) => refusal == number as usize,
     }
 }

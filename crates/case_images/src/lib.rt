@@ -1,58 +1,64 @@
 // The cases of Run and Expand.
 ghost use mathlib.Core.Path.{_≡_};
-ghost use lib.ListN.{length};
+ghost use Rattle.image.specs.Run.{expanded};
+ghost use Rattle.case_images.specs.Cases.{expandedIs, runPasses, expandPasses};
 use case_rows::rows;
-use case_rows::rows::NUMBER;
-use case_rows::rows::size;
 use image::Expanded;
 use image::Ran;
 
 // Whether Run answers so.
-fn run_in(numbers: &[i32], image: &[u8]) -> bool
-    requires { ⌜ length (now numbers) ≡ 9 ⌝ }
-{
-    match runner::run(image, size(numbers[1])) {
-        Ran::Value { value, words } => {
-            numbers[2] == 0 && value == numbers[3] && words == size(numbers[4])
-        }
-        Ran::Refused(number) => number as usize == size(numbers[2]),
-    }
-}
-
 pub fn run(numbers: &[i32], image: &[i32]) -> bool
-    requires { ⌜ length (now numbers) ≡ 9 ⌝ }
+    ensures { λ r. ⌜ r ≡ runPasses (now (numbers .entry)) (now (image .entry)) ⌝ }
 {
     let mut bytes = [0u8; 512];
     if bytes.len() < image.len() {
         return false;
     }
     rows::put_bytes(&mut bytes, image);
-    run_in(numbers, &bytes[..image.len()])
+    let x = rows::size_at(numbers, 1);
+    let refusal = rows::size_at(numbers, 2);
+    match runner::run(&bytes[..image.len()], x) {
+        Ran::Value { value, words } => {
+            if refusal != 0 {
+                return false;
+            }
+            if rows::size_at(numbers, 4) != words {
+                return false;
+            }
+            rows::is_at(numbers, 3, 0, value)
+        }
+        Ran::Refused(number) => refusal == number as usize,
+    }
+}
+
+// Whether Expand's answer is the expected one.
+fn expanded_is(numbers: &[i32], answer: Expanded) -> bool
+    ensures { λ r. ⌜ r ≡ expandedIs (now (numbers .entry)) (expanded answer) ⌝ }
+{
+    let refusal = rows::size_at(numbers, 2);
+    match answer {
+        Expanded::Table => refusal == 0,
+        Expanded::Refused(number) => refusal == number as usize,
+    }
 }
 
 // Whether Expand answers so, and leaves these values in front of the lent table.
-fn expand_in(numbers: &[i32], image: &[u8], table: &mut [i32], front: &[i32]) -> bool
-    requires { ⌜ length (now numbers) ≡ 9 ⌝ }
-{
-    let number = match runner::expand(image, table) {
-        Expanded::Table => 0,
-        Expanded::Refused(number) => number as usize,
-    };
-    number == size(numbers[2]) && rows::numbers_hold(table, front)
-}
-
 pub fn expand(numbers: &[i32], image: &[i32], front: &[i32]) -> bool
-    requires { ⌜ length (now numbers) ≡ 9 ⌝ }
+    ensures { λ r. ⌜ r ≡ expandPasses (now (numbers .entry)) (now (image .entry)) (now (front .entry)) ⌝ }
 {
     let mut bytes = [0u8; 512];
     if bytes.len() < image.len() {
         return false;
     }
     rows::put_bytes(&mut bytes, image);
-    let mut table = [NUMBER; 4096];
-    let places = size(numbers[1]);
-    if table.len() < places {
+    let places = rows::size_at(numbers, 1);
+    let mut lent = [rows::NUMBER; 4096];
+    if lent.len() < places {
         return false;
     }
-    expand_in(numbers, &bytes[..image.len()], &mut table[..places], front)
+    let answer = runner::expand(&bytes[..image.len()], &mut lent[..places]);
+    if !expanded_is(numbers, answer) {
+        return false;
+    }
+    rows::numbers_hold(&lent[..places], front)
 }

@@ -1,4 +1,6 @@
 // The count of the cases.
+ghost use mathlib.Core.Path.{_≡_};
+ghost use Rattle.case_rows.specs.Tallies.{noted};
 use libc::STDOUT_FILENO;
 
 pub struct Tally {
@@ -8,16 +10,22 @@ pub struct Tally {
 
 impl Tally {
     // Prints the case's line and counts the case. No run has so many cases that a count wraps.
-    pub fn note(self, title: &[u8], passed: bool) -> Tally {
+    pub fn note(self, title: &[u8], passed: bool) -> Tally
+        ensures { λ r. ⌜ r ≡ noted self passed ⌝ }
+    {
         if passed {
             io::write_all(STDOUT_FILENO, b"ok ");
-        } else {
-            io::write_all(STDOUT_FILENO, b"FAILED ");
+            io::write_all(STDOUT_FILENO, title);
+            return Tally {
+                passed: std::num::wrapping_add_u64(self.passed, 1),
+                failed: self.failed,
+            };
         }
+        io::write_all(STDOUT_FILENO, b"FAILED ");
         io::write_all(STDOUT_FILENO, title);
         Tally {
-            passed: std::num::wrapping_add_u64(self.passed, passed as u64),
-            failed: std::num::wrapping_add_u64(self.failed, !passed as u64),
+            passed: self.passed,
+            failed: std::num::wrapping_add_u64(self.failed, 1),
         }
     }
 

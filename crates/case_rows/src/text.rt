@@ -1,13 +1,15 @@
 // Lines of a text, and the numbers of a line.
-ghost use Prim.Native.Nat.{_≤_, _<_};
-ghost use lib.ListN.{length};
+ghost use mathlib.Core.Path.{_≡_};
+ghost use Prim.Native.Nat.{_+_, _≤_};
+ghost use lib.ListN.{length, drop};
+ghost use Rattle.case_rows.specs.Text.{lineLength, ReadsRow};
 use decimal::Item;
 use decimal::Place;
 
 // The place behind the line that holds this place: behind its newline, or the text's end.
 pub fn behind_line(text: &[u8], start: usize) -> usize
     requires { ⌜ start ≤ length (now text) ⌝ }
-    ensures { λ r. ⌜ (start ≤ r) × ((r ≤ length (now (text .entry))) × (start < length (now (text .entry)) → start < r)) ⌝ }
+    ensures { λ r. ⌜ r ≡ start + lineLength (drop start (now (text .entry))) ⌝ }
 {
     let mut at = start;
     while at < text.len() {
@@ -21,7 +23,7 @@ pub fn behind_line(text: &[u8], start: usize) -> usize
 
 // The whole numbers at the front of a line, into a lent row. Answers their count.
 pub fn read_row(line: &[u8], row: &mut [i32]) -> usize
-    ensures { λ r. ⌜ r ≤ length (now (row .exit)) ⌝ }
+    ensures { λ r. ⌜ ReadsRow (now (line .entry)) (now (row .entry)) r (now (row .exit)) ⌝ }
 {
     let mut place = Place { at: 0, line: 1 };
     let mut count = 0;

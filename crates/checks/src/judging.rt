@@ -8,58 +8,43 @@
 //   6 Expand   places, refusal; image, what stands in front
 
 ghost use mathlib.Core.Path.{_≡_};
-ghost use lib.ListN.{length};
+ghost use Rattle.checks.specs.Cases.{rowsPass, casePasses, linePasses};
 use case_rows::rows;
 use case_rows::tally::Tally;
 use case_rows::text;
 
 // Whether the operation answers as the numbers and rows of a case say.
 fn judge_rows(numbers: &[i32], first: &[i32], second: &[i32], third: &[i32]) -> bool
-    requires { ⌜ length (now numbers) ≡ 9 ⌝ }
+    ensures { λ r. ⌜ r ≡ rowsPass (now (numbers .entry)) (now (first .entry)) (now (second .entry)) (now (third .entry)) ⌝ }
 {
-    let operation = numbers[0];
-    if operation == 1 {
-        return case_diagrams::build(numbers, first, second);
+    match rows::size_at(numbers, 0) {
+        1 => case_diagrams::build(numbers, first, second),
+        2 => case_diagrams::walk(numbers, first),
+        3 => case_cascades::plan(numbers, first, second, third),
+        4 => case_cascades::compile(numbers, first, second, third),
+        5 => case_images::run(numbers, first),
+        6 => case_images::expand(numbers, first, second),
+        _ => false,
     }
-    if operation == 2 {
-        return case_diagrams::walk(numbers, first);
-    }
-    if operation == 3 {
-        return case_cascades::plan(numbers, first, second, third);
-    }
-    if operation == 4 {
-        return case_cascades::compile(numbers, first, second, third);
-    }
-    if operation == 5 {
-        return case_images::run(numbers, first);
-    }
-    if operation == 6 {
-        return case_images::expand(numbers, first, second);
-    }
-    false
 }
 
 // The same of a case's numbers one behind the other.
-fn judge(row: &[i32]) -> bool {
-    if row.len() < 12 {
-        return false;
-    }
-    let first = 12 + rows::size(row[9]);
-    let second = first + rows::size(row[10]);
-    let third = second + rows::size(row[11]);
+fn judge(row: &[i32]) -> bool
+    ensures { λ r. ⌜ r ≡ casePasses (now (row .entry)) ⌝ }
+{
+    let first = 12 + rows::size_at(row, 9);
+    let second = first + rows::size_at(row, 10);
+    let third = second + rows::size_at(row, 11);
     if row.len() != third {
         return false;
     }
-    judge_rows(
-        &row[..9],
-        &row[12..first],
-        &row[first..second],
-        &row[second..],
-    )
+    judge_rows(row, &row[12..first], &row[first..second], &row[second..])
 }
 
 // The same of a line of numbers.
-fn judge_line(line: &[u8]) -> bool {
+fn judge_line(line: &[u8]) -> bool
+    ensures { λ r. ⌜ r ≡ linePasses (now (line .entry)) ⌝ }
+{
     let mut row = [0i32; 8448];
     let count = text::read_row(line, &mut row);
     judge(&row[..count])

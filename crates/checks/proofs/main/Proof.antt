@@ -4,8 +4,8 @@ use mathlib.Core.Path.{sym}
 use native.Mathlib.Omega.{arith}
 use lib.ListN.{length}
 use lib.Seq.{length-take-le}
-use Rattle.stdin.specs.Laws.{kept-count}
 use borrow.Author.Needs.{needs}
+use Rattle.stdin.specs.Laws.{kept-count}
 use Rattle.checks.proofs.main.Statement.{statement}
 use Rattle.checks.proofs.main.Tie as tie
 

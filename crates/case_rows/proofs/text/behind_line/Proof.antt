@@ -1,20 +1,22 @@
--- `case_rows::text::behind_line` is safe and ends. Assumes nothing.
-use Prim.Native.Nat.{_≤_, _-_}
-use mathlib.Core.Path.{_≡_}
-use native.Mathlib.Omega.{arith}
+-- `case_rows::text::behind_line` meets its contract. The loop's invariant: no newline up to the place. Assumes nothing.
+use Prim.Native.Nat.{_-_}
+use mathlib.Core.Path.{refl}
 use lib.ListN.{length}
+use borrow.Author.Tests.{eq-eqb, ne-eqb}
 use borrow.Author.Needs.{needs}
+use Rattle.decimal.specs.Words.{isNewline}
+use Rattle.case_rows.specs.Laws.Text.{LinePassed, newline-here, line-on, line-over}
 use Rattle.case_rows.proofs.text.behind_line.Statement.{statement}
 use Rattle.case_rows.proofs.text.behind_line.Tie as tie
 
 abbrev Inv-loop : tie.InvT-loop
-Inv-loop text start at₀ at = (start ≤ at) × (at ≤ length text)
+Inv-loop text start at₀ at = LinePassed text start at
 
 abbrev μ-loop : tie.MeasureT-loop
 μ-loop text start at₀ at = length text - at
 
 loop-holds : tie.Need-loop-holds Inv-loop μ-loop
-loop-holds c = search needs
+loop-holds c = record { inside = c .pre; same = refl }
 
 shared-slice-read-if1 : tie.Need-shared-slice-read-if1 Inv-loop μ-loop
 shared-slice-read-if1 c = search needs
@@ -23,7 +25,8 @@ add-result : tie.Need-add-result Inv-loop μ-loop
 add-result c = search needs
 
 returns : tie.Need-returns Inv-loop μ-loop
-returns c = search needs
+unfolding isNewline
+returns c = newline-here (c .before .before .before .loop .inv) (c .before .before .loop-test .taken) (eq-eqb _ 10 (c .if1 .taken))
 
 add-at : tie.Need-add-at Inv-loop μ-loop
 add-at c = search needs
@@ -32,10 +35,11 @@ loop-less : tie.Need-loop-less Inv-loop μ-loop
 loop-less c = search needs
 
 loop-again : tie.Need-loop-again Inv-loop μ-loop
-loop-again c = search needs
+unfolding isNewline
+loop-again c = line-on (c .before .before .before .loop .inv) (c .before .before .loop-test .taken) (ne-eqb _ 10 (c .if1 .left))
 
 returns-2 : tie.Need-returns-2 Inv-loop μ-loop
-returns-2 c = search needs
+returns-2 c = line-over (c .before .loop .inv) (c .loop-test .left)
 
 pub behind-line-spec : {M : Type 1} → statement M
 behind-line-spec =

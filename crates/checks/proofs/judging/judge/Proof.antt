@@ -1,46 +1,33 @@
--- `checks::judging::judge` is safe and ends. Assumes nothing.
-use mathlib.Core.Path.{sym}
+-- `checks::judging::judge` meets its contract: the numbers are as many as they say, and the rows decide. Assumes nothing.
+use mathlib.Core.Path.{sym, _∙_}
 use native.Mathlib.Omega.{arith}
-use lib.Seq.{length-take-le}
 use borrow.Author.Needs.{needs}
+use Rattle.checks.specs.Laws.Cases.{other-length, rows-judged}
 use Rattle.checks.proofs.judging.judge.Statement.{statement}
 use Rattle.checks.proofs.judging.judge.Tie as tie
 
-returns : tie.Need-returns
-returns c = search needs
-
-shared-slice-copy-out-size : tie.Need-shared-slice-copy-out-size
-shared-slice-copy-out-size c = search needs
-
-size-requires : tie.Need-size-requires
-size-requires c κs = search needs
+size-at-requires : tie.Need-size-at-requires
+size-at-requires c κs = search needs
 
 add-first : tie.Need-add-first
-add-first c = search needs
+add-first c = let a = c .size-at .ensures .1 in omega arith
 
-shared-slice-copy-out-size-2 : tie.Need-shared-slice-copy-out-size-2
-shared-slice-copy-out-size-2 c = search needs
-
-size-requires-2 : tie.Need-size-requires-2
-size-requires-2 c κs = search needs
+size-at-requires-2 : tie.Need-size-at-requires-2
+size-at-requires-2 c κs = search needs
 
 add-second : tie.Need-add-second
-add-second c = search needs
+add-second c = let a = c .before .size-at .ensures .1 in let b = c .size-at2 .ensures .1 in omega arith
 
-shared-slice-copy-out-size-3 : tie.Need-shared-slice-copy-out-size-3
-shared-slice-copy-out-size-3 c = search needs
-
-size-requires-3 : tie.Need-size-requires-3
-size-requires-3 c κs = search needs
+size-at-requires-3 : tie.Need-size-at-requires-3
+size-at-requires-3 c κs = search needs
 
 add-third : tie.Need-add-third
-add-third c = search needs
+add-third c = let a = c .before .before .size-at .ensures .1 in let b = c .before .size-at2 .ensures .1 in let d = c .size-at3 .ensures .1 in omega arith
 
-returns-2 : tie.Need-returns-2
-returns-2 c = search needs
-
-slice-aggregate-judge-rows : tie.Need-slice-aggregate-judge-rows
-slice-aggregate-judge-rows c = sym (length-take-le 9 (c .before .before .before .before .before .before .before .before .before .args .row .now) (omega arith))
+returns : tie.Need-returns
+returns c =
+    let k = c .before in
+    sym (other-length (k .before .before .before .args .row .now) (k .before .before .size-at .ensures .0) (k .before .size-at2 .ensures .0) (k .size-at3 .ensures .0) (c .if1 .taken))
 
 sub-judge-rows : tie.Need-sub-judge-rows
 sub-judge-rows c = search needs
@@ -76,27 +63,26 @@ part-judge-rows-end-3 : tie.Need-part-judge-rows-end-3
 part-judge-rows-end-3 c = search needs
 
 judge-rows-requires : tie.Need-judge-rows-requires
-judge-rows-requires c κs = length-take-le 9 (c .before .before .before .before .before .before .before .before .before .before .before .before .args .row .now) (omega arith)
+judge-rows-requires c κs = search needs
 
-returns-3 : tie.Need-returns-3
-returns-3 c = search needs
+returns-2 : tie.Need-returns-2
+returns-2 c =
+    let l = c .before .before .before .before in
+    let k = l .before in
+    c .judge-rows .ensures
+    ∙ sym (rows-judged (k .before .before .before .args .row .now) (k .before .before .size-at .ensures .0) (k .before .size-at2 .ensures .0) (k .size-at3 .ensures .0) (l .if1 .left))
 
 pub judge-spec : {M : Type 1} → statement M
 judge-spec =
     tie.close
     (tie.spec
-    returns
-    shared-slice-copy-out-size
-    size-requires
+    size-at-requires
     add-first
-    shared-slice-copy-out-size-2
-    size-requires-2
+    size-at-requires-2
     add-second
-    shared-slice-copy-out-size-3
-    size-requires-3
+    size-at-requires-3
     add-third
-    returns-2
-    slice-aggregate-judge-rows
+    returns
     sub-judge-rows
     part-judge-rows-start
     part-judge-rows-end
@@ -109,4 +95,4 @@ judge-spec =
     part-judge-rows-start-3
     part-judge-rows-end-3
     judge-rows-requires
-    returns-3)
+    returns-2)

@@ -1,0 +1,94 @@
+-- `checks::judging::judge_rows` meets its contract, operation by operation. Assumes nothing.
+use mathlib.Core.Path.{sym, _∙_, ap}
+use mathlib.Core.Bool.{false}
+use lib.ListN.{getD}
+use borrow.Author.Needs.{needs}
+use Rattle.checks.specs.Cases.{operationsPass, rowsPass}
+use Rattle.checks.specs.Laws.Cases.{other-operation}
+use Rattle.checks.proofs.judging.judge_rows.Statement.{statement}
+use Rattle.checks.proofs.judging.judge_rows.Tie as tie
+
+size-at-requires : tie.Need-size-at-requires
+size-at-requires c κs = search needs
+
+build-requires : tie.Need-build-requires
+build-requires c κs = search needs
+
+walk-requires : tie.Need-walk-requires
+walk-requires c κs = search needs
+
+plan-requires : tie.Need-plan-requires
+plan-requires c κs = search needs
+
+compile-requires : tie.Need-compile-requires
+compile-requires c κs = search needs
+
+run-requires : tie.Need-run-requires
+run-requires c κs = search needs
+
+expand-requires : tie.Need-expand-requires
+expand-requires c κs = search needs
+
+returns : tie.Need-returns
+unfolding rowsPass operationsPass
+returns c =
+    let a = c .before .before .before .args in
+    c .build .ensures ∙ sym (ap (λ k. getD (operationsPass (a .numbers .now) (a .first .now) (a .second .now) (a .third .now)) k false) (sym (c .before .before .size-at .ensures .0) ∙ c .before .match .keys1))
+
+returns-2 : tie.Need-returns-2
+unfolding rowsPass operationsPass
+returns-2 c =
+    let a = c .before .before .before .args in
+    c .walk .ensures ∙ sym (ap (λ k. getD (operationsPass (a .numbers .now) (a .first .now) (a .second .now) (a .third .now)) k false) (sym (c .before .before .size-at .ensures .0) ∙ c .before .match .keys2))
+
+returns-3 : tie.Need-returns-3
+unfolding rowsPass operationsPass
+returns-3 c =
+    let a = c .before .before .before .args in
+    c .plan .ensures ∙ sym (ap (λ k. getD (operationsPass (a .numbers .now) (a .first .now) (a .second .now) (a .third .now)) k false) (sym (c .before .before .size-at .ensures .0) ∙ c .before .match .keys3))
+
+returns-4 : tie.Need-returns-4
+unfolding rowsPass operationsPass
+returns-4 c =
+    let a = c .before .before .before .args in
+    c .compile .ensures ∙ sym (ap (λ k. getD (operationsPass (a .numbers .now) (a .first .now) (a .second .now) (a .third .now)) k false) (sym (c .before .before .size-at .ensures .0) ∙ c .before .match .keys4))
+
+returns-5 : tie.Need-returns-5
+unfolding rowsPass operationsPass
+returns-5 c =
+    let a = c .before .before .before .args in
+    c .run .ensures ∙ sym (ap (λ k. getD (operationsPass (a .numbers .now) (a .first .now) (a .second .now) (a .third .now)) k false) (sym (c .before .before .size-at .ensures .0) ∙ c .before .match .keys5))
+
+returns-6 : tie.Need-returns-6
+unfolding rowsPass operationsPass
+returns-6 c =
+    let a = c .before .before .before .args in
+    c .expand .ensures ∙ sym (ap (λ k. getD (operationsPass (a .numbers .now) (a .first .now) (a .second .now) (a .third .now)) k false) (sym (c .before .before .size-at .ensures .0) ∙ c .before .match .keys6))
+
+returns-7 : tie.Need-returns-7
+unfolding rowsPass
+returns-7 c =
+    let a = c .before .before .args in
+    let r = c .match .rest in
+    sym
+    (ap (λ k. getD (operationsPass (a .numbers .now) (a .first .now) (a .second .now) (a .third .now)) k false) (sym (c .before .size-at .ensures .0))
+    ∙ other-operation (a .numbers .now) (a .first .now) (a .second .now) (a .third .now) (c .before .size-at .result) (r .0 .0 .0 .0 .0 .1) (r .0 .0 .0 .0 .1) (r .0 .0 .0 .1) (r .0 .0 .1) (r .0 .1) (r .1))
+
+pub judge-rows-spec : {M : Type 1} → statement M
+judge-rows-spec =
+    tie.close
+    (tie.spec
+    size-at-requires
+    build-requires
+    walk-requires
+    plan-requires
+    compile-requires
+    run-requires
+    expand-requires
+    returns
+    returns-2
+    returns-3
+    returns-4
+    returns-5
+    returns-6
+    returns-7)

@@ -1,0 +1,40 @@
+-- When a case passes, by the number of its operation and its three rows.
+use Prim.Native.Nat.{ℕ, _+_}
+use mathlib.Core.Bool.{Bool, false, _&&_}
+use mathlib.Core.List.{List, [], _∷_}
+use lib.ListN.{length, getD, take, drop}
+use lib.Dec.{eqb}
+use lib.IntN.{ℤ}
+use Rattle.case_rows.specs.Rows.{sizeAt}
+use Rattle.case_rows.specs.Text.{lineNumbers}
+use Rattle.case_diagrams.specs.Cases.{buildPasses, walkPasses}
+use Rattle.case_images.specs.Cases.{runPasses, expandPasses}
+use Rattle.case_cascades.specs.Cases.{planPasses, compilePasses}
+
+-- Whether a case passes as one of each operation, by its number; there is none with the number 0.
+unfoldable pub operationsPass : List ℤ → List ℤ → List ℤ → List ℤ → List Bool
+operationsPass numbers first second third =
+    false
+    ∷ buildPasses numbers first second
+    ∷ walkPasses numbers first
+    ∷ planPasses numbers first second third
+    ∷ compilePasses numbers first second third
+    ∷ runPasses numbers first
+    ∷ expandPasses numbers first second
+    ∷ []
+
+-- The first number is that of the operation; no case of another passes.
+unfoldable pub rowsPass : List ℤ → List ℤ → List ℤ → List ℤ → Bool
+rowsPass numbers first second third = getD (operationsPass numbers first second third) (sizeAt numbers 0) false
+
+-- The case of numbers one behind the other: twelve, of which three are counts, and as many in three rows.
+unfoldable pub casePasses : List ℤ → Bool
+casePasses row =
+    let first = 12 + sizeAt row 9 in
+    let second = first + sizeAt row 10 in
+    eqb (length row) (second + sizeAt row 11)
+    && rowsPass row (take (sizeAt row 9) (drop 12 row)) (take (sizeAt row 10) (drop first row)) (drop second row)
+
+-- The case of a line.
+unfoldable pub linePasses : List ℕ → Bool
+linePasses line = casePasses (lineNumbers 8448 line)

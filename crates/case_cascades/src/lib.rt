@@ -5,22 +5,21 @@ ghost use Rattle.cascade.specs.Compile.{outcome};
 ghost use Rattle.case_cascades.specs.Cases.{verdictIs, planPasses, outcomeIs, compilePasses};
 use cascade::Outcome;
 use cascade::Verdict;
-use case_rows::rows;
 
 // Whether Plan's verdict is the expected one.
 fn verdict_is(numbers: &[i32], verdict: Verdict) -> bool
     ensures { λ r. ⌜ r ≡ verdictIs (now (numbers .entry)) (judgement verdict) ⌝ }
 {
-    let refusal = rows::size_at(numbers, 3);
+    let refusal = case_rows::size_at(numbers, 3);
     match verdict {
         Verdict::Grouping { cells, bits } => {
             if refusal != 0 {
                 return false;
             }
-            if rows::size_at(numbers, 4) != cells {
+            if case_rows::size_at(numbers, 4) != cells {
                 return false;
             }
-            rows::size_at(numbers, 5) == bits
+            case_rows::size_at(numbers, 5) == bits
         }
         Verdict::Refused(number) => refusal == number as usize,
     }
@@ -30,27 +29,27 @@ fn verdict_is(numbers: &[i32], verdict: Verdict) -> bool
 pub fn plan(numbers: &[i32], table: &[i32], sizes: &[i32], cells: &[i32]) -> bool
     ensures { λ r. ⌜ r ≡ planPasses (now (numbers .entry)) (now (table .entry)) (now (sizes .entry)) (now (cells .entry)) ⌝ }
 {
-    let n = rows::size_at(numbers, 1);
-    let limit = rows::size_at(numbers, 2);
+    let n = case_rows::size_at(numbers, 1);
+    let limit = case_rows::size_at(numbers, 2);
     let planned = planner::plan(n, table, limit);
     let verdict = planned.verdict;
     if !verdict_is(numbers, verdict) {
         return false;
     }
     let chosen = planned.sizes;
-    if !rows::sizes_are(&chosen, sizes) {
+    if !case_rows::sizes_are(&chosen, sizes) {
         return false;
     }
     let list = planned.cells;
     let row = cell_rows::cell_rows(list);
-    rows::sizes_are(&row, cells)
+    case_rows::sizes_are(&row, cells)
 }
 
 // Whether Compile's outcome is the expected one.
 fn outcome_is(numbers: &[i32], answer: Outcome) -> bool
     ensures { λ r. ⌜ r ≡ outcomeIs (now (numbers .entry)) (outcome answer) ⌝ }
 {
-    let refusal = rows::size_at(numbers, 4);
+    let refusal = case_rows::size_at(numbers, 4);
     match answer {
         Outcome::Image {
             length,
@@ -61,16 +60,16 @@ fn outcome_is(numbers: &[i32], answer: Outcome) -> bool
             if refusal != 0 {
                 return false;
             }
-            if rows::size_at(numbers, 5) != length {
+            if case_rows::size_at(numbers, 5) != length {
                 return false;
             }
-            if rows::size_at(numbers, 6) != nodes {
+            if case_rows::size_at(numbers, 6) != nodes {
                 return false;
             }
-            if rows::size_at(numbers, 7) != cells {
+            if case_rows::size_at(numbers, 7) != cells {
                 return false;
             }
-            rows::size_at(numbers, 8) == bits
+            case_rows::size_at(numbers, 8) == bits
         }
         Outcome::Refused(number) => refusal == number as usize,
     }
@@ -80,10 +79,10 @@ fn outcome_is(numbers: &[i32], answer: Outcome) -> bool
 pub fn compile(numbers: &[i32], table: &[i32], cells: &[i32], front: &[i32]) -> bool
     ensures { λ r. ⌜ r ≡ compilePasses (now (numbers .entry)) (now (table .entry)) (now (cells .entry)) (now (front .entry)) ⌝ }
 {
-    let n = rows::size_at(numbers, 1);
-    let limit = rows::size_at(numbers, 2);
-    let places = rows::size_at(numbers, 3);
-    let mut lent = [rows::BYTE; 512];
+    let n = case_rows::size_at(numbers, 1);
+    let limit = case_rows::size_at(numbers, 2);
+    let places = case_rows::size_at(numbers, 3);
+    let mut lent = [case_rows::BYTE; 512];
     if lent.len() < places {
         return false;
     }
@@ -94,8 +93,8 @@ pub fn compile(numbers: &[i32], table: &[i32], cells: &[i32], front: &[i32]) -> 
     }
     let list = compiled.cells;
     let row = cell_rows::cell_rows(list);
-    if !rows::sizes_are(&row, cells) {
+    if !case_rows::sizes_are(&row, cells) {
         return false;
     }
-    rows::bytes_hold(&lent[..places], front)
+    case_rows::bytes_hold(&lent[..places], front)
 }

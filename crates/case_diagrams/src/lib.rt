@@ -2,7 +2,6 @@
 ghost use mathlib.Core.Path.{_≡_};
 ghost use Rattle.diagram.specs.Build.{built};
 ghost use Rattle.case_diagrams.specs.Cases.{builtIs, buildPasses, walkPasses};
-use case_rows::rows;
 use diagram::Built;
 use diagram::Walked;
 
@@ -10,16 +9,16 @@ use diagram::Walked;
 fn built_is(numbers: &[i32], answer: Built) -> bool
     ensures { λ r. ⌜ r ≡ builtIs (now (numbers .entry)) (built answer) ⌝ }
 {
-    let refusal = rows::size_at(numbers, 3);
+    let refusal = case_rows::size_at(numbers, 3);
     match answer {
         Built::Diagram { nodes, offset } => {
             if refusal != 0 {
                 return false;
             }
-            if rows::size_at(numbers, 4) != nodes {
+            if case_rows::size_at(numbers, 4) != nodes {
                 return false;
             }
-            rows::is_at(numbers, 5, 0, offset)
+            case_rows::is_at(numbers, 5, 0, offset)
         }
         Built::Refused(number) => refusal == number as usize,
     }
@@ -29,9 +28,9 @@ fn built_is(numbers: &[i32], answer: Built) -> bool
 pub fn build(numbers: &[i32], table: &[i32], front: &[i32]) -> bool
     ensures { λ r. ⌜ r ≡ buildPasses (now (numbers .entry)) (now (table .entry)) (now (front .entry)) ⌝ }
 {
-    let n = rows::size_at(numbers, 1);
-    let places = rows::size_at(numbers, 2);
-    let mut lent = [rows::NUMBER; 16380];
+    let n = case_rows::size_at(numbers, 1);
+    let places = case_rows::size_at(numbers, 2);
+    let mut lent = [case_rows::NUMBER; 16380];
     if lent.len() < places {
         return false;
     }
@@ -39,23 +38,23 @@ pub fn build(numbers: &[i32], table: &[i32], front: &[i32]) -> bool
     if !built_is(numbers, answer) {
         return false;
     }
-    rows::numbers_hold(&lent[..places], front)
+    case_rows::numbers_hold(&lent[..places], front)
 }
 
 // Whether Walk answers so.
 pub fn walk(numbers: &[i32], records: &[i32]) -> bool
     ensures { λ r. ⌜ r ≡ walkPasses (now (numbers .entry)) (now (records .entry)) ⌝ }
 {
-    let n = rows::size_at(numbers, 1);
-    let offset = rows::number_at(numbers, 2, 0);
-    let x = rows::size_at(numbers, 3);
-    let refusal = rows::size_at(numbers, 4);
+    let n = case_rows::size_at(numbers, 1);
+    let offset = case_rows::number_at(numbers, 2, 0);
+    let x = case_rows::size_at(numbers, 3);
+    let refusal = case_rows::size_at(numbers, 4);
     match walker::walk(n, offset, records, x) {
         Walked::Value(value) => {
             if refusal != 0 {
                 return false;
             }
-            rows::is_at(numbers, 5, 0, value)
+            case_rows::is_at(numbers, 5, 0, value)
         }
         Walked::Refused(number) => refusal == number as usize,
     }

@@ -2,7 +2,6 @@
 ghost use mathlib.Core.Path.{_≡_};
 ghost use Rattle.image.specs.Run.{expanded};
 ghost use Rattle.case_images.specs.Cases.{expandedIs, runPasses, expandPasses};
-use case_rows::rows;
 use image::Expanded;
 use image::Ran;
 
@@ -14,18 +13,18 @@ pub fn run(numbers: &[i32], image: &[i32]) -> bool
     if bytes.len() < image.len() {
         return false;
     }
-    rows::put_bytes(&mut bytes, image);
-    let x = rows::size_at(numbers, 1);
-    let refusal = rows::size_at(numbers, 2);
+    case_rows::put_bytes(&mut bytes, image);
+    let x = case_rows::size_at(numbers, 1);
+    let refusal = case_rows::size_at(numbers, 2);
     match runner::run(&bytes[..image.len()], x) {
         Ran::Value { value, words } => {
             if refusal != 0 {
                 return false;
             }
-            if rows::size_at(numbers, 4) != words {
+            if case_rows::size_at(numbers, 4) != words {
                 return false;
             }
-            rows::is_at(numbers, 3, 0, value)
+            case_rows::is_at(numbers, 3, 0, value)
         }
         Ran::Refused(number) => refusal == number as usize,
     }
@@ -35,7 +34,7 @@ pub fn run(numbers: &[i32], image: &[i32]) -> bool
 fn expanded_is(numbers: &[i32], answer: Expanded) -> bool
     ensures { λ r. ⌜ r ≡ expandedIs (now (numbers .entry)) (expanded answer) ⌝ }
 {
-    let refusal = rows::size_at(numbers, 2);
+    let refusal = case_rows::size_at(numbers, 2);
     match answer {
         Expanded::Table => refusal == 0,
         Expanded::Refused(number) => refusal == number as usize,
@@ -50,9 +49,9 @@ pub fn expand(numbers: &[i32], image: &[i32], front: &[i32]) -> bool
     if bytes.len() < image.len() {
         return false;
     }
-    rows::put_bytes(&mut bytes, image);
-    let places = rows::size_at(numbers, 1);
-    let mut lent = [rows::NUMBER; 4096];
+    case_rows::put_bytes(&mut bytes, image);
+    let places = case_rows::size_at(numbers, 1);
+    let mut lent = [case_rows::NUMBER; 4096];
     if lent.len() < places {
         return false;
     }
@@ -60,5 +59,5 @@ pub fn expand(numbers: &[i32], image: &[i32], front: &[i32]) -> bool
     if !expanded_is(numbers, answer) {
         return false;
     }
-    rows::numbers_hold(&lent[..places], front)
+    case_rows::numbers_hold(&lent[..places], front)
 }

@@ -1,4 +1,3 @@
 -- Laws about the definitions of this crate, which proofs cite.
 pub mod Rows
 pub mod Tests
-pub mod Text

@@ -6,7 +6,7 @@ use lib.ListN.{length, getD, take, drop}
 use lib.Dec.{eqb}
 use lib.IntN.{ℤ}
 use Rattle.case_rows.specs.Rows.{sizeAt}
-use Rattle.case_rows.specs.Text.{lineNumbers}
+use Rattle.case_lines.specs.Text.{lineNumbers}
 use Rattle.case_diagrams.specs.Cases.{buildPasses, walkPasses}
 use Rattle.case_images.specs.Cases.{runPasses, expandPasses}
 use Rattle.case_cascades.specs.Cases.{planPasses, compilePasses}

@@ -9,15 +9,13 @@
 
 ghost use mathlib.Core.Path.{_≡_};
 ghost use Rattle.checks.specs.Cases.{rowsPass, casePasses, linePasses};
-use case_rows::rows;
-use case_rows::tally::Tally;
-use case_rows::text;
+use case_tally::Tally;
 
 // Whether the operation answers as the numbers and rows of a case say.
 fn judge_rows(numbers: &[i32], first: &[i32], second: &[i32], third: &[i32]) -> bool
     ensures { λ r. ⌜ r ≡ rowsPass (now (numbers .entry)) (now (first .entry)) (now (second .entry)) (now (third .entry)) ⌝ }
 {
-    match rows::size_at(numbers, 0) {
+    match case_rows::size_at(numbers, 0) {
         1 => case_diagrams::build(numbers, first, second),
         2 => case_diagrams::walk(numbers, first),
         3 => case_cascades::plan(numbers, first, second, third),
@@ -32,9 +30,9 @@ fn judge_rows(numbers: &[i32], first: &[i32], second: &[i32], third: &[i32]) -> 
 fn judge(row: &[i32]) -> bool
     ensures { λ r. ⌜ r ≡ casePasses (now (row .entry)) ⌝ }
 {
-    let first = 12 + rows::size_at(row, 9);
-    let second = first + rows::size_at(row, 10);
-    let third = second + rows::size_at(row, 11);
+    let first = 12 + case_rows::size_at(row, 9);
+    let second = first + case_rows::size_at(row, 10);
+    let third = second + case_rows::size_at(row, 11);
     if row.len() != third {
         return false;
     }
@@ -46,7 +44,7 @@ fn judge_line(line: &[u8]) -> bool
     ensures { λ r. ⌜ r ≡ linePasses (now (line .entry)) ⌝ }
 {
     let mut row = [0i32; 8448];
-    let count = text::read_row(line, &mut row);
+    let count = case_lines::read_row(line, &mut row);
     judge(&row[..count])
 }
 
@@ -58,8 +56,8 @@ pub(crate) fn judge_all(cases: &[u8]) {
     };
     let mut at = 0;
     while at < cases.len() {
-        let numbers = text::behind_line(cases, at);
-        let next = text::behind_line(cases, numbers);
+        let numbers = case_lines::behind_line(cases, at);
+        let next = case_lines::behind_line(cases, numbers);
         let passed = judge_line(&cases[numbers..next]);
         tally = tally.note(&cases[at..numbers], passed);
         at = next;

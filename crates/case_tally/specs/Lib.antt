@@ -1,0 +1,2 @@
+-- The count of the cases.
+pub mod Tallies

@@ -43,8 +43,9 @@ bool panstrait_classes(size_t n, const int32_t *table, size_t table_len,
  * Build: 0, and the first numbers of the node buffer hold the table's records,
  * behind count stands the node count (records plus 1) and behind offset the
  * offset; else the refusal's number (1, 2, 3 or 4), and buffer, count and
- * offset are left as they were. A record is four numbers: variable, low, high,
- * weight.
+ * offset are left as they were. A record is six numbers: variable, low, high,
+ * weight, and the least and the greatest value of its node's function, which is
+ * 0 where all bits are 0. The buffer must have 6 * (2^n - 1) numbers.
  */
 uint8_t panstrait_build(size_t n, const int32_t *table, size_t table_len,
                         int32_t *nodes, size_t nodes_len,
@@ -57,6 +58,19 @@ uint8_t panstrait_build(size_t n, const int32_t *table, size_t table_len,
 uint8_t panstrait_walk(size_t n, int32_t offset,
                        const int32_t *records, size_t records_len, size_t x,
                        int32_t *value);
+
+/*
+ * Report: 0, and behind count the number of X from a to b, both included,
+ * behind least, greatest and sum the least, the greatest and the exact sum of
+ * Walk's values at these X; else the refusal's number (1, 5, 6, or 15 where a
+ * is above b or b is not below 2^n), and all four are left as they were. Every
+ * sum fits 41 bits.
+ */
+uint8_t panstrait_report(size_t n, int32_t offset,
+                         const int32_t *records, size_t records_len,
+                         size_t a, size_t b,
+                         size_t *count, int32_t *least, int32_t *greatest,
+                         int64_t *sum);
 
 /*
  * Run: 0, and behind value the value of an image at X, behind words the number

@@ -1,11 +1,11 @@
-//! Walk, Run and Expand on the largest record list and the largest images,
-//! beside the second program.
+//! Walk, Report, Run and Expand on the largest record list and the largest
+//! images, beside the second program; Report beside Walk, too.
 
 use crate::same_method;
 use crate::timing::{self, black_box};
 use panstrait_compare::answers;
 use panstrait_reference as reference;
-use panstrait_samples::{oracle, tables, Cascade};
+use panstrait_samples::{oracle, tables, Cascade, RECORD};
 
 const X: usize = 0b1010_1100_0110;
 
@@ -20,7 +20,7 @@ fn walk() {
     let table = tables::all_different(12);
     let records = oracle::records(12, &table);
     timing::line(
-        &format!("walk, {} records", records.len() / 4),
+        &format!("walk, {} records", records.len() / RECORD),
         "reference",
         || {
             let _ = black_box(answers::walk(12, table[0], black_box(&records), X));
@@ -29,6 +29,29 @@ fn walk() {
             let _ = black_box(reference::walk(12, table[0], black_box(&records), X));
         },
     );
+}
+
+/// The whole domain. Walk is the check of the same list and one path: Report
+/// must stay within ten times its time.
+fn report() {
+    let table = tables::all_different(12);
+    let records = oracle::records(12, &table);
+    let what = format!("report, {} records, 4096 X", records.len() / RECORD);
+    let mut proved = || {
+        let _ = black_box(answers::report(12, table[0], black_box(&records), 0, 4_095));
+    };
+    timing::line(&what, "walk, one X", &mut proved, || {
+        let _ = black_box(answers::walk(12, table[0], black_box(&records), X));
+    });
+    timing::line(&what, "reference", &mut proved, || {
+        let _ = black_box(reference::report(
+            12,
+            table[0],
+            black_box(&records),
+            0,
+            4_095,
+        ));
+    });
 }
 
 fn run(n: usize) {
@@ -70,6 +93,7 @@ fn expand() {
 
 pub fn measure() {
     walk();
+    report();
     [6, 9, 12].into_iter().for_each(run);
     expand();
 }

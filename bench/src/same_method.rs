@@ -1,6 +1,8 @@
 //! The proved library's methods, written by hand in Rust: the same searches
 //! and the same comparisons, as a Rust programmer would put them.
 
+use panstrait_samples::RECORD;
+
 /// The classes of all cuts, laid out cut after cut.
 pub fn class_cuts(
     n: usize,
@@ -120,15 +122,28 @@ pub fn build(n: usize, table: &[i32], nodes: &mut [i32]) -> usize {
             let weight = table[(2 * first + 1) * half] - table[2 * first * half];
             row[here + class] = row[below + low];
             if low != high || weight != 0 {
-                let (low, high) = (row[below + low] as i32, row[below + high] as i32);
-                let record = [(n - h - 1) as i32, low, high, weight];
-                nodes[4 * made..4 * made + 4].copy_from_slice(&record);
+                let (low, high) = (row[below + low], row[below + high]);
+                let (least, greatest) = bounds(nodes, low, high, weight);
+                let variable = (n - h - 1) as i32;
+                let record = [variable, low as i32, high as i32, weight, least, greatest];
+                nodes[RECORD * made..RECORD * (made + 1)].copy_from_slice(&record);
                 made += 1;
                 row[here + class] = made;
             }
         }
     }
     made + 1
+}
+
+/// The least and the greatest value of a node's function, from those that its
+/// children's records have.
+fn bounds(nodes: &[i32], low: usize, high: usize, weight: i32) -> (i32, i32) {
+    let of = |node: usize| match node {
+        0 => (0, 0),
+        _ => (nodes[RECORD * node - 2], nodes[RECORD * node - 1]),
+    };
+    let (low, high) = (of(low), of(high));
+    (low.0.min(weight + high.0), low.1.max(weight + high.1))
 }
 
 #[derive(Clone, Copy, Default)]

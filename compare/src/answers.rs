@@ -2,11 +2,12 @@
 //! value holds a pattern at first, which a refusal must leave.
 
 use crate::proved;
-use panstrait_reference::{Built, Cell, Compiled, Planned, Ran, Refusal};
+use panstrait_reference::{Built, Cell, Compiled, Planned, Ran, Refusal, Reported};
 
 /// What is lent for single values before a call.
 const NUMBER: i32 = 0x5EED_1234;
 const COUNT: usize = 0x5EED_1234_5678;
+const SUM: i64 = 0x5EED_1234_5678_9ABC;
 
 /// The answer that a result number stands for, and what was lent for values.
 fn answer<T, L: PartialEq>(number: u8, value: T, lent: L, pattern: L) -> Result<T, Refusal> {
@@ -33,6 +34,35 @@ pub fn walk(n: usize, offset: i32, records: &[i32], x: usize) -> Result<i32, Ref
     let mut value = NUMBER;
     let number = proved::walk(n, offset, records, x, &mut value);
     answer(number, value, value, NUMBER)
+}
+
+pub fn report(
+    n: usize,
+    offset: i32,
+    records: &[i32],
+    a: usize,
+    b: usize,
+) -> Result<Reported, Refusal> {
+    let pattern = (COUNT, NUMBER, NUMBER, SUM);
+    let (mut count, mut least, mut greatest, mut sum) = pattern;
+    let number = proved::report(
+        n,
+        offset,
+        records,
+        a,
+        b,
+        &mut count,
+        &mut least,
+        &mut greatest,
+        &mut sum,
+    );
+    let reported = Reported {
+        count,
+        least,
+        greatest,
+        sum,
+    };
+    answer(number, reported, (count, least, greatest, sum), pattern)
 }
 
 pub fn run(image: &[u8], x: usize) -> Result<Ran, Refusal> {

@@ -34,6 +34,18 @@ mod c {
             x: usize,
             value: *mut i32,
         ) -> u8;
+        pub fn panstrait_report(
+            n: usize,
+            offset: i32,
+            records: *const i32,
+            records_len: usize,
+            a: usize,
+            b: usize,
+            count: *mut usize,
+            least: *mut i32,
+            greatest: *mut i32,
+            sum: *mut i64,
+        ) -> u8;
         pub fn panstrait_run(
             image: *const u8,
             image_len: usize,
@@ -128,6 +140,36 @@ pub fn build(
 /// Walk: 0 with the value at X, or the refusal's number.
 pub fn walk(n: usize, offset: i32, records: &[i32], x: usize, value: &mut i32) -> u8 {
     unsafe { c::panstrait_walk(n, offset, records.as_ptr(), records.len(), x, value) }
+}
+
+/// Report: 0 with the count of X from a to b and the least, the greatest and the
+/// sum of their values, or the refusal's number.
+#[allow(clippy::too_many_arguments)]
+pub fn report(
+    n: usize,
+    offset: i32,
+    records: &[i32],
+    a: usize,
+    b: usize,
+    count: &mut usize,
+    least: &mut i32,
+    greatest: &mut i32,
+    sum: &mut i64,
+) -> u8 {
+    unsafe {
+        c::panstrait_report(
+            n,
+            offset,
+            records.as_ptr(),
+            records.len(),
+            a,
+            b,
+            count,
+            least,
+            greatest,
+            sum,
+        )
+    }
 }
 
 /// Run: 0 with the value at X and the words read, or the refusal's number.

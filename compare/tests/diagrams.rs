@@ -3,7 +3,9 @@
 use panstrait_compare::answers;
 use panstrait_reference as reference;
 use panstrait_reference::Refusal;
-use panstrait_samples::{cases, node_numbers, tables, Random, GREATEST, LEAST, NUMBER};
+use panstrait_samples::{
+    cases, node_numbers, tables, Random, FIGURE, GREATEST, LEAST, NUMBER, RECORD,
+};
 
 /// Both programs' answers for a buffer of so many numbers, compared whole, with
 /// the numbers before and after it.
@@ -40,13 +42,51 @@ fn tables_that_are_hard_to_tell_apart() {
 
 /// Both programs' records are the ones worked out by hand.
 #[test]
-fn values_as_far_apart_as_can_be() {
-    for case in cases::extreme_halves() {
+fn records_worked_out_by_hand() {
+    for case in cases::diagrams() {
         let mut nodes = vec![NUMBER; node_numbers(case.n)];
         let answer = answers::build(case.n, &case.table, &mut nodes).expect("a sound table");
-        assert_eq!((answer.nodes, answer.offset), (2, case.table[0]));
-        assert_eq!(nodes[..4], case.records);
+        let count = case.records.len() / RECORD + 1;
+        assert_eq!((answer.nodes, answer.offset), (count, case.table[0]));
+        assert_eq!(nodes[..case.records.len()], case.records);
         built(case.n, &case.table);
+    }
+    assert_eq!(same_build(4, &FIGURE, 89), Err(4));
+    assert_eq!(same_build(4, &FIGURE, 90), Ok(()));
+}
+
+/// Of every node the least or the greatest value is 0.
+#[test]
+fn rising_and_falling_tables() {
+    let mut random = Random(12);
+    for n in 1..=12 {
+        for most in [0, 1, 2, 3, 2_000] {
+            for sign in [1, -1] {
+                let mut value = random.between(-100, 100);
+                let step = |_| {
+                    value += sign * random.between(0, most);
+                    value
+                };
+                built(n, &tables::of(n, step));
+            }
+        }
+    }
+}
+
+#[test]
+fn tables_of_extreme_values() {
+    let mut random = Random(13);
+    for n in 1..=12 {
+        for values in [[LEAST, GREATEST, 0], [LEAST, LEAST, GREATEST]] {
+            for _ in 0..10 {
+                built(n, &tables::of(n, |_| values[random.below(3)]));
+            }
+        }
+        for place in [0, 1, (1 << n) / 2, (1 << n) - 1] {
+            let one_of = |here, there| tables::of(n, |x| if x == place { here } else { there });
+            built(n, &one_of(GREATEST, LEAST));
+            built(n, &one_of(LEAST, GREATEST));
+        }
     }
 }
 
@@ -77,7 +117,7 @@ fn all_small_tables() {
 fn room_beyond_what_is_needed() {
     for n in 1..=12 {
         for table in [tables::all_different(n), tables::of(n, |_| -3)] {
-            for more in [0, 1, 2, 3, 4, 5, 8, 1_000] {
+            for more in [0, 1, 2, 3, 4, 5, 6, 8, 12, 1_000] {
                 assert_eq!(same_build(n, &table, node_numbers(n) + more), Ok(()));
             }
         }
@@ -89,7 +129,7 @@ fn variables_out_of_range() {
     let wrong = [0, 13, 14, 31, 32, 63, 64, 65, 1 << 32, usize::MAX];
     for n in wrong.into_iter().chain(cases::WRAPPED_3) {
         for values in [0, 1, 2, 7, 8, 9, 4_096, 8_192] {
-            assert_eq!(same_build(n, &vec![0; values], 28), Err(1));
+            assert_eq!(same_build(n, &vec![0; values], node_numbers(3)), Err(1));
             assert_eq!(same_build(n, &vec![0; values], 40_000), Err(1));
         }
     }
@@ -128,7 +168,9 @@ fn buffers_that_are_too_short() {
     for n in 1..=12 {
         let room = node_numbers(n);
         for table in [tables::all_different(n), tables::of(n, |_| 9)] {
-            for short in [0, 1, room / 2, room - 4, room - 1] {
+            // Four numbers for each record are too few.
+            let fours = room / RECORD * 4;
+            for short in [0, 1, room / 2, fours, room - RECORD, room - 1] {
                 assert_eq!(same_build(n, &table, short), Err(4));
             }
         }

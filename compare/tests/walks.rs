@@ -4,7 +4,7 @@ use panstrait_compare::answers;
 use panstrait_reference as reference;
 use panstrait_reference::Refusal;
 use panstrait_samples::{
-    cases, node_numbers, oracle, tables, Random, GREATEST, LEAST, MOST_WEIGHT,
+    cases, lists, node_numbers, oracle, tables, Random, GREATEST, LEAST, MOST_WEIGHT, RECORD,
 };
 
 /// Both programs' answers.
@@ -61,43 +61,12 @@ fn the_empty_list() {
     }
 }
 
-/// A list that passes, with no care for reduction: children are any lower
-/// nodes, weights any in range.
-fn passing_list(n: usize, random: &mut Random) -> Vec<i32> {
-    let most = (1 << n) - 1;
-    let count = 1 + random.below(most.min(40));
-    let mut variables: Vec<i32> = (0..count).map(|_| random.below(n) as i32).collect();
-    if random.below(2) == 0 {
-        variables.sort_unstable();
-    }
-    let mut records = Vec::new();
-    for number in 1..=count {
-        let variable = variables[number - 1];
-        let mut child = || {
-            let node = random.below(number);
-            let lower = node == 0 || variables[node - 1] < variable;
-            if lower {
-                node as i32
-            } else {
-                0
-            }
-        };
-        records.extend([variable, child(), child()]);
-        records.push(match random.below(4) {
-            0 => 0,
-            1 => [MOST_WEIGHT, -MOST_WEIGHT][random.below(2)],
-            _ => random.between(-MOST_WEIGHT, MOST_WEIGHT),
-        });
-    }
-    records
-}
-
 #[test]
 fn unreduced_lists() {
     let mut random = Random(22);
     for n in 1..=12 {
         for _ in 0..150 {
-            let records = passing_list(n, &mut random);
+            let records = lists::passing(n, &mut random);
             let offset = random.between(LEAST, GREATEST);
             for x in inputs(n.min(6), &mut random) {
                 let x = x << (n - n.min(6)) | random.below(1 << (n - n.min(6)));
@@ -116,12 +85,14 @@ fn limits(n: usize, number: usize) -> Vec<i32> {
     limits
 }
 
-/// Every number of a list set to every limit, one at a time.
+/// Every number of a list set to every limit and to its neighbours, one at a
+/// time.
 fn damage(n: usize, offset: i32, records: &[i32], places: impl Iterator<Item = usize>) {
     let mut damaged = records.to_vec();
     for place in places {
-        for limit in limits(n, place / 4 + 1) {
-            damaged[place] = limit;
+        let neighbours = [records[place] - 1, records[place] + 1];
+        for other in limits(n, place / RECORD + 1).into_iter().chain(neighbours) {
+            damaged[place] = other;
             for x in [0, (1 << n) - 1, (1 << n) / 3, 1 << n] {
                 let _ = same_walk(n, offset, &damaged, x);
             }
@@ -138,7 +109,7 @@ fn damaged_short_lists() {
             let table = tables::random(n, &mut random);
             let records = oracle::records(n, &table);
             damage(n, table[0], &records, 0..records.len());
-            let records = passing_list(n, &mut random);
+            let records = lists::passing(n, &mut random);
             damage(n, 0, &records, 0..records.len());
         }
     }
@@ -150,16 +121,58 @@ fn damaged_long_lists() {
     for n in [9, 12] {
         let table = tables::all_different(n);
         let records = oracle::records(n, &table);
-        let ends = [0, 1, 2, 3].map(|back| records.len() - 1 - back);
+        let ends = [1, 2, 3, 4, 5, 6].map(|back| records.len() - back);
         let places: Vec<usize> = (0..60).map(|_| random.below(records.len())).collect();
         damage(n, table[0], &records, places.into_iter().chain(ends));
+    }
+}
+
+/// One record's least and greatest set to every pair around the true ones.
+fn damage_bounds(n: usize, records: &[i32], end: usize) {
+    let mut damaged = records.to_vec();
+    let [least, greatest] = [records[end - 2], records[end - 1]];
+    for (less, more) in (0..25).map(|code| (code / 5 - 2, code % 5 - 2)) {
+        damaged[end - 2] = least + less;
+        damaged[end - 1] = greatest + more;
+        let refusal = if (less, more) == (0, 0) {
+            None
+        } else {
+            Some(6)
+        };
+        assert_eq!(same_walk(n, 0, &damaged, 0).err(), refusal);
+    }
+    damaged[end - 2] = greatest;
+    damaged[end - 1] = least;
+    assert_eq!(same_walk(n, 0, &damaged, 1).is_ok(), least == greatest);
+}
+
+#[test]
+fn untrue_least_and_greatest_values() {
+    let mut random = Random(25);
+    for n in 1..=6 {
+        for _ in 0..20 {
+            let table = tables::random(n, &mut random);
+            for records in [oracle::records(n, &table), lists::passing(n, &mut random)] {
+                let ends = (RECORD..=records.len()).step_by(RECORD);
+                ends.for_each(|end| damage_bounds(n, &records, end));
+            }
+        }
+    }
+}
+
+#[test]
+fn each_rule_alone() {
+    for case in cases::broken_lists() {
+        for x in [0, (1 << case.n) - 1] {
+            let answer = same_walk(case.n, 0, &case.records, x);
+            assert_eq!(answer, Err(6), "{}", case.name);
+        }
     }
 }
 
 /// Two children that point past their record, forward or to a higher variable.
 #[test]
 fn children_that_are_not_lower() {
-    let leaf = [0, 0, 0, 5];
     for (variable, low, high) in [
         (0, 1, 0),
         (0, 0, 1),
@@ -168,7 +181,7 @@ fn children_that_are_not_lower() {
         (1, 0, 2),
         (1, -1, 0),
     ] {
-        let records = [&leaf[..], &[variable, low, high, 7]].concat();
+        let records = lists::with_bounds(&[[0, 0, 0, 5], [variable, low, high, 7]]);
         for x in 0..4 {
             let _ = same_walk(2, 0, &records, x);
         }
@@ -187,11 +200,13 @@ fn fixed_lists() {
 fn lengths_that_do_not_fit() {
     for n in 1..=12 {
         let room = node_numbers(n);
-        let unreduced: Vec<i32> = [0, 0, 0, 1].repeat(1 << n);
+        let unreduced: Vec<i32> = [0, 0, 0, 1, 0, 1].repeat(1 << n);
         assert!(same_walk(n, 0, &unreduced[..room], 0).is_ok());
-        assert_eq!(same_walk(n, 0, &unreduced[..room + 4], 0), Err(6));
-        for length in [1, 2, 3, room - 1, room + 1, room + 2, room + 3] {
-            assert_eq!(same_walk(n, 0, &unreduced[..length], 0), Err(6));
+        assert_eq!(same_walk(n, 0, &unreduced[..room + RECORD], 0), Err(6));
+        for other in 1..RECORD {
+            for length in [other, room - other, room + other] {
+                assert_eq!(same_walk(n, 0, &unreduced[..length], 0), Err(6));
+            }
         }
     }
 }
@@ -203,7 +218,7 @@ fn offsets_and_inputs_out_of_range() {
             assert_eq!(same_walk(n, offset, &[], 0), Err(5));
         }
         for x in [1 << n, (1 << n) + 1, 1 << 32, 1 << 63, usize::MAX] {
-            assert_eq!(same_walk(n, 0, &[0, 0, 0, 1], x), Err(7));
+            assert_eq!(same_walk(n, 0, &[0, 0, 0, 1, 0, 1], x), Err(7));
         }
     }
 }
@@ -214,7 +229,7 @@ fn variables_out_of_range() {
     for n in wrong.into_iter().chain(cases::WRAPPED_3) {
         for x in [0, 1, 7, 8, 1 << 13, usize::MAX] {
             assert_eq!(same_walk(n, 0, &[], x), Err(1));
-            assert_eq!(same_walk(n, 0, &[0, 0, 0, 1], x), Err(1));
+            assert_eq!(same_walk(n, 0, &[0, 0, 0, 1, 0, 1], x), Err(1));
         }
     }
 }
@@ -222,20 +237,15 @@ fn variables_out_of_range() {
 /// Every set of reasons to refuse at once: the first in the paper's order.
 #[test]
 fn several_reasons_at_once() {
-    let numbers: [Refusal; 4] = [1, 5, 6, 7];
-    for reasons in 1..16_usize {
-        let holds = |place: usize| reasons >> place & 1 == 1;
-        for bad in [0, 13] {
-            let n = if holds(0) { bad } else { 3 };
-            let offset = if holds(1) { LEAST - 1 } else { LEAST };
-            let weight = if holds(2) {
-                MOST_WEIGHT + 1
-            } else {
-                MOST_WEIGHT
-            };
-            let x = if holds(3) { 1 << 13 } else { 0 };
-            let first = numbers[reasons.trailing_zeros() as usize];
-            assert_eq!(same_walk(n, offset, &[0, 0, 0, weight], x), Err(first));
+    for call in cases::list_calls() {
+        let refusal = |x| same_walk(call.n, call.offset, &call.records, x).err();
+        let last = (1 << call.variables()) - 1;
+        for x in [0, last] {
+            assert_eq!(refusal(x), call.refusal, "{}, X {x}", call.name);
+        }
+        for x in cases::wrong_inputs(call.variables()) {
+            let expected = call.refusal.or(Some(7));
+            assert_eq!(refusal(x), expected, "{}, X {x}", call.name);
         }
     }
 }

@@ -1,7 +1,8 @@
-//! The diagram: Build makes its records, Walk evaluates them.
+//! The diagram: Build makes the records of a table.
 
+use crate::lists::{least_and_greatest, Record};
 use crate::ranges;
-use crate::refusal::{require, Refusal, INPUT, NODE_BUFFER, OFFSET, RECORDS, SIZE};
+use crate::refusal::{require, Refusal, NODE_BUFFER};
 use crate::table;
 
 /// What Build answers beside the records.
@@ -12,15 +13,12 @@ pub struct Built {
     pub offset: i32,
 }
 
-/// A record: variable, low, high, weight.
-type Record = [i32; 4];
-
 /// Build: the table's records, into the first numbers of the node buffer.
 pub fn build(n: usize, table: &[i32], nodes: &mut [i32]) -> Result<Built, Refusal> {
     table::check(n, table)?;
     require(nodes.len() >= ranges::most_record_numbers(n), NODE_BUFFER)?;
     let records = records(n, table);
-    for (place, record) in nodes.chunks_exact_mut(4).zip(&records) {
+    for (place, record) in nodes.chunks_exact_mut(ranges::RECORD_NUMBERS).zip(&records) {
         place.copy_from_slice(record);
     }
     Ok(Built {
@@ -58,55 +56,14 @@ fn level(height: usize, table: &[i32], below: &[i32], records: &mut Vec<Record>)
         } else if let Some(&(_, number)) = known.iter().find(same) {
             number
         } else {
+            let variable = height as i32 - 1;
             let weight = upper[0] - lower[0];
-            records.push([height as i32 - 1, halves[0], halves[1], weight]);
+            let (least, greatest) = least_and_greatest(table::differences(block));
+            records.push([variable, halves[0], halves[1], weight, least, greatest]);
             known.push((block, records.len() as i32));
             records.len() as i32
         };
         nodes.push(node);
     }
     nodes
-}
-
-/// Walk: the value at X of a record list, which need not be a reduced one.
-pub fn walk(n: usize, offset: i32, records: &[i32], x: usize) -> Result<i32, Refusal> {
-    require(ranges::size(n), SIZE)?;
-    require(ranges::value(offset), OFFSET)?;
-    require(well_formed(n, records), RECORDS)?;
-    require(x < 1 << n, INPUT)?;
-    let mut node = records.len() / 4;
-    let mut value = offset;
-    while node != 0 {
-        let [variable, low, high, weight] = record(records, node);
-        let one_edge = x >> variable & 1 == 1;
-        value += if one_edge { weight } else { 0 };
-        node = if one_edge { high } else { low } as usize;
-    }
-    Ok(value)
-}
-
-fn well_formed(n: usize, records: &[i32]) -> bool {
-    records.len() % 4 == 0
-        && records.len() <= ranges::most_record_numbers(n)
-        && (1..=records.len() / 4).all(|number| record_well_formed(n, records, number))
-}
-
-fn record_well_formed(n: usize, records: &[i32], number: usize) -> bool {
-    let [variable, low, high, weight] = record(records, number);
-    let child = |node: i32| {
-        (0..number as i32).contains(&node)
-            && (node == 0 || record(records, node as usize)[0] < variable)
-    };
-    (0..n as i32).contains(&variable) && child(low) && child(high) && ranges::weight(weight)
-}
-
-/// The record of a number from 1.
-fn record(records: &[i32], number: usize) -> Record {
-    let at = 4 * (number - 1);
-    [
-        records[at],
-        records[at + 1],
-        records[at + 2],
-        records[at + 3],
-    ]
 }

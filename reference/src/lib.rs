@@ -1,18 +1,21 @@
 //! Edge-valued diagrams and LUT cascades for integer tables.
 //!
-//! The second program: a plain implementation of the paper's six operations
-//! and its listing program, written for comparison with another one. It
-//! follows the definitions directly (blocks are compared difference by
-//! difference, every grouping is tried) and makes no effort to be fast.
+//! The second program: a plain implementation of the paper's operations and
+//! its listing program, written for comparison with another one. It follows
+//! the definitions directly (blocks are compared difference by difference,
+//! every grouping is tried, a node's function is evaluated at every X) and
+//! makes no effort to be fast.
 //!
 //! The layers, lowest first: `refusal`, `ranges` and `widths`; `reader`, which
-//! knows images and no tables; `table` (blocks, classes, the node bound);
-//! `diagram`; `grouping`; `compiler`; `listing`.
+//! knows images and no tables, and `lists`, which knows record lists and no
+//! tables; `table` (blocks, classes, the node bound); `diagram`; `grouping`;
+//! `compiler`; `listing`.
 
 mod compiler;
 mod diagram;
 mod grouping;
 mod listing;
+mod lists;
 mod ranges;
 mod reader;
 mod refusal;
@@ -20,9 +23,10 @@ mod table;
 mod widths;
 
 pub use compiler::{compile, Compiled};
-pub use diagram::{build, walk, Built};
+pub use diagram::{build, Built};
 pub use grouping::{plan, Cell, Planned};
 pub use listing::listing;
+pub use lists::{report, walk, Reported};
 pub use reader::{expand, run, Ran};
 pub use refusal::Refusal;
 pub use table::{classes, node_bound};

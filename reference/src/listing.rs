@@ -7,6 +7,9 @@ use crate::refusal::{require, Refusal, SIZE, TABLE_LENGTH};
 
 const IMAGE_BUFFER_LENGTH: usize = 65_536;
 
+/// The numbers of a record that its line has: variable, low, high, weight.
+const LISTED_NUMBERS: usize = 4;
+
 /// The bytes the listing program prints for its standard input.
 pub fn listing(input: &[u8]) -> Vec<u8> {
     let text = match list(input) {
@@ -22,7 +25,7 @@ fn list(input: &[u8]) -> Result<String, Refusal> {
         _ => return Err(TABLE_LENGTH),
     };
     // A wrong byte count takes the place of a wrong table length, after n.
-    require(ranges::size(n), SIZE)?;
+    require(ranges::listed_size(n), SIZE)?;
     require(values.len() == 4 << n, TABLE_LENGTH)?;
     let value = |v: &[u8]| i32::from_be_bytes([v[0], v[1], v[2], v[3]]);
     let table: Vec<i32> = values.chunks_exact(4).map(value).collect();
@@ -35,8 +38,9 @@ fn list(input: &[u8]) -> Result<String, Refusal> {
 
 fn text(n: usize, built: &Built, nodes: &[i32], compiled: &Compiled) -> String {
     let mut text = format!("table {n} {}\n", built.offset);
-    for (number, record) in (1..built.nodes).zip(nodes.chunks(4)) {
-        let fields: Vec<String> = record.iter().map(i32::to_string).collect();
+    for (number, record) in (1..built.nodes).zip(nodes.chunks(ranges::RECORD_NUMBERS)) {
+        let listed = record[..LISTED_NUMBERS].iter();
+        let fields: Vec<String> = listed.map(i32::to_string).collect();
         text += &format!("node {number} {}\n", fields.join(" "));
     }
     text += &format!("nodes {}\n", compiled.nodes);

@@ -3,9 +3,20 @@
 /// The most variables, and also the widest address.
 const MOST: usize = 12;
 
+/// The most variables of a table that the listing program lists.
+const MOST_LISTED: usize = 11;
+
+/// The numbers of a record in a buffer.
+pub(crate) const RECORD_NUMBERS: usize = 6;
+
 /// Is n a number of variables the paper admits?
 pub(crate) fn size(n: usize) -> bool {
     (1..=MOST).contains(&n)
+}
+
+/// Is n a number of variables the listing program admits?
+pub(crate) fn listed_size(n: usize) -> bool {
+    (1..=MOST_LISTED).contains(&n)
 }
 
 /// Is this an address width, or a limit on one, that the paper admits?
@@ -25,5 +36,5 @@ pub(crate) fn weight(weight: i32) -> bool {
 
 /// The numbers in a buffer that holds the largest diagram of n variables.
 pub(crate) fn most_record_numbers(n: usize) -> usize {
-    4 * ((1 << n) - 1)
+    RECORD_NUMBERS * ((1 << n) - 1)
 }

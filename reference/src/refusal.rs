@@ -3,7 +3,7 @@
 /// The paper's number for a reason to refuse.
 pub type Refusal = u8;
 
-/// n is outside 1..12.
+/// n is outside 1..12, or 1..11 for the listing program.
 pub(crate) const SIZE: Refusal = 1;
 /// A table's length is not 2^n.
 pub(crate) const TABLE_LENGTH: Refusal = 2;
@@ -13,7 +13,7 @@ pub(crate) const TABLE_VALUE: Refusal = 3;
 pub(crate) const NODE_BUFFER: Refusal = 4;
 /// An offset lies outside the range of table values.
 pub(crate) const OFFSET: Refusal = 5;
-/// A record list is not well formed.
+/// A record list is not well formed, or says an untrue least or greatest value.
 pub(crate) const RECORDS: Refusal = 6;
 /// X is not below 2^n.
 pub(crate) const INPUT: Refusal = 7;
@@ -31,6 +31,8 @@ pub(crate) const COMMAND: Refusal = 12;
 pub(crate) const OPERAND: Refusal = 13;
 /// Bytes follow the last command.
 pub(crate) const BYTES_AFTER: Refusal = 14;
+/// A part of the domain begins above its end or ends outside the domain.
+pub(crate) const PART: Refusal = 15;
 
 /// Goes on if the condition holds, else refuses.
 pub(crate) fn require(condition: bool, refusal: Refusal) -> Result<(), Refusal> {

@@ -10,6 +10,11 @@ pub(crate) fn check(n: usize, table: &[i32]) -> Result<(), Refusal> {
     require(table.iter().all(|&v| ranges::value(v)), TABLE_VALUE)
 }
 
+/// The differences of a block of a table that has passed its checks.
+pub(crate) fn differences(block: &[i32]) -> impl Iterator<Item = i32> + '_ {
+    block.iter().map(|value| value - block[0])
+}
+
 /// Have two blocks of one height equal differences?
 pub(crate) fn equal_differences(one: &[i32], other: &[i32]) -> bool {
     let shift = difference(other[0], one[0]);

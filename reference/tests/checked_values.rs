@@ -33,14 +33,7 @@ fn p1_operations() {
         offset: 0,
     };
     assert_eq!(answer, expected);
-    let expected = [
-        [0, 0, 0, 1],
-        [1, 0, 1, 1],
-        [2, 0, 2, 1],
-        [2, 2, 0, 3],
-        [3, 3, 4, 4],
-    ];
-    assert_eq!(records, expected.concat());
+    assert_eq!(records, cases::FIGURE_RECORDS.concat());
     let (answer, image) = compiled(4, &FIGURE, 4).unwrap();
     assert_eq!(image, figure_draft().bytes());
     assert_eq!((answer.nodes, answer.length), (6, image.len()));

@@ -149,10 +149,10 @@ fn bounds_beyond_the_numbers_saturate() {
 #[test]
 fn trap_equal_children_with_a_weight() {
     let (answer, records) = built(2, &[0, 0, 5, 5]);
-    assert_eq!(records, [1, 0, 0, 5]);
+    assert_eq!(records, [1, 0, 0, 5, 0, 5]);
     assert_eq!(answer.nodes, 2);
     let (_, records) = built(2, &[0, 1, 5, 6]);
-    assert_eq!(records, [0, 0, 0, 1, 1, 1, 1, 5]);
+    assert_eq!(records, [[0, 0, 0, 1, 0, 1], [1, 1, 1, 5, 0, 6]].concat());
 }
 
 #[test]
@@ -206,10 +206,11 @@ fn equal_costs_take_the_wider_first_group() {
 }
 
 #[test]
-fn values_as_far_apart_as_can_be() {
-    for case in cases::extreme_halves() {
+fn records_worked_out_by_hand() {
+    for case in cases::diagrams() {
         let (answer, records) = built(case.n, &case.table);
         assert_eq!(records, case.records);
-        assert_eq!((answer.nodes, answer.offset), (2, case.table[0]));
+        let nodes = case.records.len() / RECORD + 1;
+        assert_eq!((answer.nodes, answer.offset), (nodes, case.table[0]));
     }
 }

@@ -14,7 +14,7 @@ fn printed(input: &[u8]) -> String {
 
 #[test]
 fn under_two_bytes() {
-    for input in [&[][..], &[4], &[0], &[13], &[255]] {
+    for input in [&[][..], &[4], &[0], &[11], &[12], &[13], &[255]] {
         assert_eq!(printed(input), "refused 2\n");
     }
 }
@@ -22,15 +22,44 @@ fn under_two_bytes() {
 /// n counts before the number of bytes.
 #[test]
 fn n_out_of_range_and_no_table() {
-    for input in [&[13, 4][..], &[0, 4], &[0, 4, 0], &[13, 4, 0], &[255, 0]] {
-        assert_eq!(printed(input), "refused 1\n");
+    for n in [0, 12, 13, 255] {
+        for input in [
+            &[n, 4][..],
+            &[n, 0],
+            &[n, 4, 0],
+            &[n, 4, 0, 0, 0, 0, 0, 0, 0],
+        ] {
+            assert_eq!(printed(input), "refused 1\n");
+        }
     }
+}
+
+/// Tables over 12 variables are compiled, and not listed.
+#[test]
+fn tables_over_12_variables() {
+    for table in tables::structured(12) {
+        assert!(compiled(12, &table, 12).is_ok());
+        for limit in [0, 12, 13] {
+            let mut input = listing_input(12, limit, &table);
+            assert_eq!(printed(&input), "refused 1\n");
+            input.pop();
+            assert_eq!(printed(&input), "refused 1\n");
+        }
+    }
+}
+
+#[test]
+fn an_address_limit_out_of_range_over_11_variables() {
+    let input = listing_input(11, 13, &tables::all_different(11));
+    assert_eq!(printed(&input[..input.len() - 1]), "refused 2\n");
+    assert_eq!(printed(&input), "refused 8\n");
 }
 
 #[test]
 fn each_refusal() {
     let over = GREATEST + 1;
     assert_eq!(printed(&listing_input(0, 4, &[0])), "refused 1\n");
+    assert_eq!(printed(&listing_input(12, 4, &[0; 4096])), "refused 1\n");
     assert_eq!(printed(&listing_input(13, 4, &[0; 8192])), "refused 1\n");
     assert_eq!(printed(&listing_input(255, 4, &[])), "refused 1\n");
     assert_eq!(printed(&listing_input(2, 4, &[0; 3])), "refused 2\n");
@@ -57,6 +86,7 @@ fn byte_counts_that_are_no_whole_values() {
 #[test]
 fn order() {
     assert_eq!(printed(&listing_input(0, 0, &[i32::MAX])), "refused 1\n");
+    assert_eq!(printed(&listing_input(12, 0, &[i32::MAX])), "refused 1\n");
     assert_eq!(printed(&listing_input(2, 0, &[i32::MAX])), "refused 2\n");
     assert_eq!(printed(&listing_input(1, 0, &[i32::MAX; 2])), "refused 3\n");
     assert_eq!(printed(&listing_input(2, 0, &[0, 0, 0, 1])), "refused 8\n");
@@ -92,14 +122,14 @@ fn expected(n: usize, limit: usize, table: &[i32]) -> String {
     };
     let records = oracle::records(n, table);
     let mut lines = vec![format!("table {n} {}", table[0])];
-    for (place, record) in records.chunks(4).enumerate() {
+    for (place, record) in records.chunks(RECORD).enumerate() {
         let [variable, low, high, weight] = [0, 1, 2, 3].map(|field| record[field]);
         lines.push(format!(
             "node {} {variable} {low} {high} {weight}",
             place + 1
         ));
     }
-    lines.push(format!("nodes {}", records.len() / 4 + 1));
+    lines.push(format!("nodes {}", records.len() / RECORD + 1));
     let mut cut = 0;
     for cell in cascade.draft(&sizes).cells {
         let (group, width) = (usize::from(cell.group), cell.width);
@@ -114,7 +144,7 @@ fn expected(n: usize, limit: usize, table: &[i32]) -> String {
 
 #[test]
 fn whole_listings() {
-    for n in 8..=12 {
+    for n in 7..=11 {
         for table in tables::structured(n).iter().chain(&tables::adversarial(n)) {
             for limit in [n - 3, 12] {
                 let input = listing_input(n as u8, limit as u8, table);
@@ -127,7 +157,7 @@ fn whole_listings() {
 /// The table of X itself: one record and one cell for each variable.
 #[test]
 fn whole_listings_by_hand() {
-    for n in 8..=12 {
+    for n in 1..=11 {
         let node = |v: usize| format!("node {} {v} {v} {v} {}\n", v + 1, 1 << v);
         let cell = |v: usize| format!("cell 1 1 1 {} {}\n", v + 2, 2 * (v + 2));
         let nodes: String = (0..n).map(node).collect();
@@ -168,14 +198,27 @@ fn the_program_prints_the_listing() {
 
 #[test]
 fn the_program_on_the_longest_input() {
-    let long_image = tables::long_image();
-    let input = listing_input(12, 12, &long_image);
-    assert_eq!(printed_by_program(&input), expected(12, 12, &long_image));
-    let table = tables::all_different(12);
-    let mut input = listing_input(12, 12, &table);
-    assert_eq!(input.len(), 16_386);
-    assert_eq!(printed_by_program(&input), expected(12, 12, &table));
-    assert_eq!(printed_by_program(&input[..16_385]), "refused 2\n");
+    let half_of_a_long_image = &tables::long_image()[..2_048];
+    let input = listing_input(11, 12, half_of_a_long_image);
+    let text = expected(11, 12, half_of_a_long_image);
+    assert_eq!(printed_by_program(&input), text);
+    let table = tables::all_different(11);
+    let mut input = listing_input(11, 12, &table);
+    assert_eq!(input.len(), 8_194);
+    assert_eq!(printed_by_program(&input), expected(11, 12, &table));
+    assert_eq!(printed_by_program(&input[..8_193]), "refused 2\n");
     input.push(0);
     assert_eq!(printed_by_program(&input), "refused 2\n");
+}
+
+#[test]
+fn the_program_over_12_variables() {
+    for table in [tables::long_image(), tables::all_different(12)] {
+        let input = listing_input(12, 12, &table);
+        assert_eq!(input.len(), 16_386);
+        for length in [2, 9, 8_194, 16_385, 16_386] {
+            assert_eq!(printed_by_program(&input[..length]), "refused 1\n");
+        }
+        assert_eq!(printed_by_program(&input[..1]), "refused 2\n");
+    }
 }

@@ -38,16 +38,17 @@ fn n_that_is_in_range_in_its_low_bits() {
     for n in cases::WRAPPED_3 {
         for length in [8, 0, 1, 7, 9, 16, 4_096] {
             let table = vec![0; length];
-            assert_eq!(build_refusal(n, &table, 28), 1);
+            assert_eq!(build_refusal(n, &table, node_numbers(3)), 1);
             assert_eq!(build_refusal(n, &table, 40_000), 1);
             for limit in [3, 12] {
                 assert_eq!(plan_refusal(n, &table, limit), 1);
                 assert_eq!(compile_refusal(n, &table, limit, 1_000), 1);
             }
         }
-        for records in [&[][..], &[2, 0, 0, 1]] {
+        for records in [&[][..], &[2, 0, 0, 1, 0, 1]] {
             for x in [0, 7, 8] {
                 assert_eq!(walk(n, 0, records, x), Err(1));
+                assert_eq!(report(n, 0, records, 0, x), Err(1));
             }
         }
     }
@@ -56,24 +57,36 @@ fn n_that_is_in_range_in_its_low_bits() {
 #[test]
 fn build_each() {
     for n in [0].into_iter().chain(HUGE) {
-        assert_eq!(build_refusal(n, &FIGURE, 60), 1);
+        assert_eq!(build_refusal(n, &FIGURE, 90), 1);
     }
     for length in [0, 1, 15, 17, 32] {
-        assert_eq!(build_refusal(4, &vec![0; length], 60), 2);
+        assert_eq!(build_refusal(4, &vec![0; length], 90), 2);
     }
     for value in [LEAST - 1, GREATEST + 1, i32::MIN, i32::MAX] {
         for place in [0, 7, 15] {
             let mut table = FIGURE;
             table[place] = value;
-            assert_eq!(build_refusal(4, &table, 60), 3);
+            assert_eq!(build_refusal(4, &table, 90), 3);
         }
     }
-    for buffer in [0, 20, 59] {
+    for buffer in [0, 30, 60, 89] {
         assert_eq!(build_refusal(4, &FIGURE, buffer), 4);
     }
+    assert!(build(4, &FIGURE, &mut [NUMBER; 90]).is_ok());
     // The buffer is due whole even where the diagram has no record.
-    assert_eq!(build_refusal(4, &[7; 16], 59), 4);
-    assert_eq!(build_refusal(1, &[7; 2], 3), 4);
+    assert_eq!(build_refusal(4, &[7; 16], 89), 4);
+    assert_eq!(build_refusal(1, &[7; 2], 5), 4);
+    assert!(build(1, &[7; 2], &mut [NUMBER; 6]).is_ok());
+}
+
+#[test]
+fn node_buffers_one_number_short() {
+    for n in 1..=12 {
+        let table = tables::all_different(n);
+        let most = 6 * ((1 << n) - 1);
+        assert_eq!(build_refusal(n, &table, most - 1), 4);
+        assert!(build(n, &table, &mut vec![NUMBER; most]).is_ok());
+    }
 }
 
 #[test]
@@ -170,17 +183,55 @@ fn image_refusals_come_before_x_and_table_length() {
     }
 }
 
+/// Every set of refusals that can hold at once: the first in the paper's order.
 #[test]
-fn walk_order() {
+fn walk_and_report_order() {
+    for call in cases::list_calls() {
+        let (name, variables) = (&call.name, call.variables());
+        let walk_refusal = |x| walk(call.n, call.offset, &call.records, x).err();
+        let report_refusal = |a, b| report(call.n, call.offset, &call.records, a, b).err();
+        for x in cases::wrong_inputs(variables) {
+            let expected = call.refusal.or(Some(7));
+            assert_eq!(walk_refusal(x), expected, "{name}, X {x}");
+        }
+        for (a, b) in cases::wrong_parts(variables) {
+            let expected = call.refusal.or(Some(15));
+            assert_eq!(report_refusal(a, b), expected, "{name}, X {a} to {b}");
+        }
+        let last = (1 << variables) - 1;
+        for x in [0, last] {
+            assert_eq!(walk_refusal(x), call.refusal, "{name}, X {x}");
+            assert_eq!(report_refusal(x, last), call.refusal, "{name}, X from {x}");
+        }
+    }
+}
+
+#[test]
+fn walk_and_report_order_by_hand() {
     let bad = [0, 0, 0];
-    assert_eq!(walk(0, i32::MAX, &bad, usize::MAX), Err(1));
-    assert_eq!(walk(usize::MAX, i32::MAX, &bad, usize::MAX), Err(1));
+    let report = |n, offset, records: &[i32]| report(n, offset, records, 1, 0);
+    for n in [0, 13, usize::MAX] {
+        assert_eq!(walk(n, i32::MAX, &bad, usize::MAX), Err(1));
+        assert_eq!(report(n, i32::MAX, &bad), Err(1));
+    }
     assert_eq!(walk(2, i32::MAX, &bad, usize::MAX), Err(5));
+    assert_eq!(report(2, i32::MAX, &bad), Err(5));
     assert_eq!(walk(2, 0, &bad, usize::MAX), Err(6));
+    assert_eq!(report(2, 0, &bad), Err(6));
     assert_eq!(walk(2, 0, &[], usize::MAX), Err(7));
     assert_eq!(walk(2, 0, &[], 4), Err(7));
-    assert_eq!(walk(2, LEAST - 1, &[], 0), Err(5));
-    assert_eq!(walk(2, GREATEST + 1, &[], 0), Err(5));
-    assert_eq!(walk(2, LEAST, &[], 3), Ok(LEAST));
-    assert_eq!(walk(2, GREATEST, &[], 3), Ok(GREATEST));
+    assert_eq!(report(2, 0, &[]), Err(15));
+}
+
+#[test]
+fn offsets() {
+    for offset in [LEAST - 1, GREATEST + 1] {
+        assert_eq!(walk(2, offset, &[], 0), Err(5));
+        assert_eq!(report(2, offset, &[], 0, 3), Err(5));
+    }
+    for offset in [LEAST, GREATEST] {
+        assert_eq!(walk(2, offset, &[], 3), Ok(offset));
+        let reported = report(2, offset, &[], 0, 3).unwrap();
+        assert_eq!(reported.sum, 4 * i64::from(offset));
+    }
 }

@@ -1,4 +1,4 @@
-//! Many tables through all six operations, and against the definitions.
+//! Many tables through all operations, and against the definitions.
 
 mod common;
 
@@ -18,14 +18,24 @@ fn check_diagram(n: usize, table: &[i32]) {
     let (answer, records) = built(n, table);
     assert_eq!(records, oracle::records(n, table));
     assert_eq!(answer.offset, table[0]);
-    assert_eq!(answer.nodes, records.len() / 4 + 1);
-    for (x, &value) in table.iter().enumerate() {
-        assert_eq!(walk(n, answer.offset, &records, x), Ok(value));
+    assert_eq!(answer.nodes, records.len() / RECORD + 1);
+    for x in inputs(n) {
+        assert_eq!(walk(n, answer.offset, &records, x), Ok(table[x]));
     }
+    check_reports(n, table, &records);
     for p in [0, 1, 2, 3, 7, 100, 1 << 24, u64::MAX] {
         for l in 1..=n {
             assert!(answer.nodes as i128 <= node_bound(n, table, p, l));
         }
+    }
+}
+
+/// The whole domain and its halves.
+fn check_reports(n: usize, table: &[i32], records: &[i32]) {
+    let (middle, last) = ((1 << n) / 2, (1 << n) - 1);
+    for (a, b) in [(0, last), (0, middle - 1), (middle, last)] {
+        let expected = oracle::numbers(&table[a..=b]);
+        assert_eq!(reported(n, table[0], records, a, b), Ok(expected));
     }
 }
 

@@ -47,13 +47,13 @@ fn norm_diagram() {
     round_trip(4, &NORM);
     let (answer, records) = built(4, &NORM);
     let expected = [
-        [0, 0, 0, 1],
-        [1, 1, 1, 2],
-        [1, 0, 1, 1],
-        [1, 0, 0, 1],
-        [2, 2, 3, 1],
-        [2, 3, 4, 1],
-        [3, 5, 6, 2],
+        [0, 0, 0, 1, 0, 1],
+        [1, 1, 1, 2, 0, 3],
+        [1, 0, 1, 1, 0, 2],
+        [1, 0, 0, 1, 0, 1],
+        [2, 2, 3, 1, 0, 3],
+        [2, 3, 4, 1, 0, 2],
+        [3, 5, 6, 2, 0, 4],
     ];
     assert_eq!(records, expected.concat());
     assert_eq!((answer.nodes, answer.offset), (8, 0));
@@ -74,7 +74,7 @@ fn norm_memory_data() {
     }
     // The edges at 8 and 9.
     let (_, records) = built(4, &NORM);
-    assert_eq!(records[..4], [0, 0, 0, 1]);
+    assert_eq!(records[..RECORD], [0, 0, 0, 1, 0, 1]);
 }
 
 /// Document 002, theorem 1 at the largest l it admits for 4 bits and p 1;
@@ -134,9 +134,10 @@ fn weighted_sum() {
     }
     let (answer, records) = built(5, &table);
     assert_eq!(answer.nodes, 6);
-    for (variable, record) in records.chunks(4).enumerate() {
+    for (variable, record) in records.chunks(RECORD).enumerate() {
         let v = variable as i32;
-        assert_eq!(record, [v, v, v, v + 1]);
+        let sum = (v + 1) * (v + 2) / 2;
+        assert_eq!(record, [v, v, v, v + 1, 0, sum]);
     }
 }
 
@@ -178,13 +179,13 @@ fn square_root_diagram() {
     round_trip(3, &ROOT);
     let (answer, records) = built(3, &ROOT);
     let expected = [
-        [0, 0, 0, 8],
-        [0, 0, 0, 3],
-        [0, 0, 0, 2],
-        [0, 0, 0, 1],
-        [1, 1, 2, 11],
-        [1, 3, 4, 4],
-        [2, 5, 6, 16],
+        [0, 0, 0, 8, 0, 8],
+        [0, 0, 0, 3, 0, 3],
+        [0, 0, 0, 2, 0, 2],
+        [0, 0, 0, 1, 0, 1],
+        [1, 1, 2, 11, 0, 14],
+        [1, 3, 4, 4, 0, 5],
+        [2, 5, 6, 16, 0, 21],
     ];
     assert_eq!(records, expected.concat());
     assert_eq!(answer.nodes, 8);

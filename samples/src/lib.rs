@@ -1,8 +1,10 @@
-//! What the tests and the benchmarks are tried on: tables, images by hand, and
-//! the paper's definitions once more, in other ways than the second program's.
+//! What the tests and the benchmarks are tried on: tables, record lists, images
+//! by hand, and the paper's definitions once more, in other ways than the second
+//! program's.
 
 pub mod cases;
 pub mod drafts;
+pub mod lists;
 pub mod oracle;
 pub mod tables;
 
@@ -27,7 +29,10 @@ pub const ROOT: [i32; 8] = [0, 8, 11, 14, 16, 18, 20, 21];
 pub const NUMBER: i32 = 0x5EED_1234;
 pub const BYTE: u8 = 0xC7;
 
+/// The numbers of a record: variable, low, high, weight, least, greatest.
+pub const RECORD: usize = 6;
+
 /// The numbers a node buffer for n variables needs.
 pub fn node_numbers(n: usize) -> usize {
-    4 * ((1 << n) - 1)
+    RECORD * ((1 << n) - 1)
 }

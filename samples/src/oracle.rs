@@ -1,6 +1,7 @@
 //! The definitions once more, in other ways: by maps of whole differences, by
 //! keys of low, high and weight, and by a dynamic programme over the cuts.
 
+use crate::lists::{with_bounds, Branch};
 use crate::{Draft, DraftCell};
 use std::collections::HashMap;
 
@@ -19,6 +20,10 @@ pub fn classes(n: usize, table: &[i32], cut: usize) -> Vec<usize> {
 
 /// The records, sharing by equal low, high and weight within a height.
 pub fn records(n: usize, table: &[i32]) -> Vec<i32> {
+    with_bounds(&branches(n, table))
+}
+
+fn branches(n: usize, table: &[i32]) -> Vec<Branch> {
     let mut records = Vec::new();
     let mut below = vec![0; 1 << n];
     for variable in 0..n {
@@ -33,14 +38,25 @@ pub fn records(n: usize, table: &[i32]) -> Vec<i32> {
                 continue;
             }
             let node = *known.entry((low, high, weight)).or_insert_with(|| {
-                records.extend([variable as i32, low, high, weight]);
-                records.len() as i32 / 4
+                records.push([variable as i32, low, high, weight]);
+                records.len() as i32
             });
             nodes.push(node);
         }
         below = nodes;
     }
     records
+}
+
+/// The count of X, the least value, the greatest value and the sum.
+pub type Numbers = (usize, i32, i32, i64);
+
+/// What Report should answer where these are the values at the X of a part.
+pub fn numbers(values: &[i32]) -> Numbers {
+    let mut sorted = values.to_vec();
+    sorted.sort_unstable();
+    let sum = sorted.iter().map(|&value| i64::from(value)).sum();
+    (sorted.len(), sorted[0], sorted[sorted.len() - 1], sum)
 }
 
 /// The bits that tell a number of classes apart.

@@ -19,7 +19,7 @@ unfoldable pub buildPasses : List ℤ → List ℤ → List ℤ → Bool
 buildPasses numbers table front =
     let n = sizeAt numbers 1 in
     let places = sizeAt numbers 2 in
-    leb places 16380
+    leb places 24570
     && (builtIs numbers (buildAnswer n table places)
     && frontHolds numberLent (buildBuffer n table (replicate places numberLent)) front)
 

@@ -30,7 +30,7 @@ pub fn build(numbers: &[i32], table: &[i32], front: &[i32]) -> bool
 {
     let n = case_rows::size_at(numbers, 1);
     let places = case_rows::size_at(numbers, 2);
-    let mut lent = [case_rows::NUMBER; 16380];
+    let mut lent = [case_rows::NUMBER; 24570];
     if lent.len() < places {
         return false;
     }

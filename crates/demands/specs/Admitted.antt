@@ -8,7 +8,7 @@ use lib.Signed.{_≤ℤ_, _<ℤ_}
 use Rattle.numbers.specs.Lists.{sumOf}
 use Rattle.numbers.specs.Widths.{weightWidth}
 use Rattle.blocks.specs.Classes.{railAt}
-use Rattle.diagram.specs.Walk.{variableAt, lowAt, highAt, weightAt}
+use Rattle.diagram.specs.Walk.{variableAt, lowAt, highAt, weightAt, leastAt, greatestAt, pathWeight}
 use Rattle.image.specs.Cells.{Card}
 use Rattle.image.specs.Commands.{imageOf}
 use Rattle.image.specs.Reader.{end, due, dueByte, dueSize, commandAt, placeAfter, start}
@@ -44,9 +44,9 @@ tableChecks n table =
     ∷ ((x : ℕ) → x < length table → TableValue (getD table x (pos 0))) otherwise 3
     ∷ []
 
--- Build: these, then node buffer shorter than 4·(2^n - 1) numbers is 4.
+-- Build: these, then node buffer shorter than 6·(2^n - 1) numbers is 4.
 unfoldable pub buildChecks : ℕ → List ℤ → ℕ → List Check
-buildChecks n table room = tableChecks n table ++ (4 * (2 ^ n - 1) ≤ room) otherwise 4 ∷ []
+buildChecks n table room = tableChecks n table ++ (6 * (2 ^ n - 1) ≤ room) otherwise 4 ∷ []
 
 -- ---- Walk
 
@@ -55,18 +55,29 @@ pub record ListedChild (list : List ℤ) (k : ℕ) (child : ℤ) : Type 0 where
   pub earlier : Between (pos 0) (pos (k - 1)) child
   pub lower : ¬ (child ≡ pos 0) → variableAt list (natAbs child) <ℤ variableAt list k
 
--- Record k of a list for n variables.
+-- The least of a function's values at X below 2^n: at no X is there less, and at some X it is met; the greatest likewise.
+pub record LeastOver (n : ℕ) (f : ℕ → ℤ) (z : ℤ) : Type 0 where
+  pub under : (x : ℕ) → x < 2 ^ n → z ≤ℤ f x
+  pub met : (x : ℕ) × ((x < 2 ^ n) × (z ≡ f x))
+
+pub record GreatestOver (n : ℕ) (f : ℕ → ℤ) (z : ℤ) : Type 0 where
+  pub over : (x : ℕ) → x < 2 ^ n → f x ≤ℤ z
+  pub met : (x : ℕ) × ((x < 2 ^ n) × (z ≡ f x))
+
+-- Record k of a list for n variables. Its function is the sum of the weights of the 1-edges on the path from it.
 pub record ListedRecord (n : ℕ) (list : List ℤ) (k : ℕ) : Type 0 where
   pub variable : Between (pos 0) (pos (n - 1)) (variableAt list k)
   pub low : ListedChild list k (lowAt list k)
   pub high : ListedChild list k (highAt list k)
   pub weight : Between (negℤ (pos 16777215)) (pos 16777215) (weightAt list k)
+  pub least : LeastOver n (pathWeight list n k) (leastAt list k)
+  pub greatest : GreatestOver n (pathWeight list n k) (greatestAt list k)
 
--- A record list: a multiple of 4 numbers, at most 4·(2^n - 1), and each of its records keeps the rules.
+-- A record list: a multiple of 6 numbers, at most 6·(2^n - 1), and each of its records keeps the rules.
 pub record RecordList (n : ℕ) (list : List ℤ) : Type 0 where
-  pub whole : length list % 4 ≡ 0
-  pub most : length list ≤ 4 * (2 ^ n - 1)
-  pub records : (k : ℕ) → 1 ≤ k → k ≤ length list / 4 → ListedRecord n list k
+  pub whole : length list % 6 ≡ 0
+  pub most : length list ≤ 6 * (2 ^ n - 1)
+  pub records : (k : ℕ) → 1 ≤ k → k ≤ length list / 6 → ListedRecord n list k
 
 -- Walk: 1; offset out of the table's range is 5; the record list 6; X not below 2^n is 7.
 unfoldable pub walkChecks : ℕ → ℤ → List ℤ → ℕ → List Check

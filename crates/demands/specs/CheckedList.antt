@@ -23,7 +23,7 @@ use Rattle.cascade.specs.Plan.{plan, planCell, noCell, entries, sizeArray, cell
 use Rattle.cascade.specs.declared.Cell.{Cell as PlanCell}
 use Rattle.cascade.specs.Compile.{imageFor, compile, report, compileAnswer, compileCells, compileBuffer}
 use Rattle.lines.specs.Text.{ascii, decimalDigits, decimal, fields, line}
-use Rattle.listing.specs.Listing.{imageRoom, tableOf, listed, nodeLine, nodeLines, cellLine, tableText, answerText, listing}
+use Rattle.listing.specs.Listing.{mostListed, isListed, imageRoom, tableOf, listed, shownNumbers, nodeLine, nodeLines, cellLine, tableText, answerText, listing}
 
 -- What a case asks.
 data Question : Type 0 where
@@ -119,5 +119,5 @@ cases =
 
 -- Every case's answer is the paper's.
 checked-values : map (λ c. answer (c .question)) cases ≡ map (λ c. c .expected) cases
-unfolding cases asks answer numbers text figure smallImage cellNumbers filled array oneCell numbersFrom every keep tally sumOf leastFrom least mostVariables widestAddress isVariables isLimit within isValue eqZ railWidth holds enough weightWidth cellBits block blocks first lowerHalf upperHalf differences same numberIn learn learnAll distinct classes classCount classOf railAt branches kinds recordsBelow node recordOf recordsAt records recordNumbers recordSize offset nodeCount ofTable nodeRoom build buildAnswer stepAt isJump jumps risingKinds nodeBound bigEndian signedBytes number unsignedAt signedAt bitsOf totalBits commandBytes wordCommand cellCommands cardCommands imageOf wordOf wordsOf cellOf cellsFrom cardFor descending closing groupingsWithin groupings addressWidth fitsFrom fits cost cheapest firstCheapest chosen plan planCell noCell entries sizeArray cellArray totals planAnswer imageFor compile report compileAnswer compileCells compileBuffer padded ascii decimalDigits decimal fields line imageRoom tableOf listed nodeLine nodeLines cellLine tableText answerText listing flatMap
+unfolding cases asks answer numbers text figure smallImage cellNumbers filled array oneCell numbersFrom every keep tally sumOf leastFrom least mostVariables widestAddress isVariables isLimit within isValue eqZ railWidth holds enough weightWidth cellBits block blocks first lowerHalf upperHalf differences same numberIn learn learnAll distinct classes classCount classOf railAt branches kinds recordsBelow node recordOf recordsAt records recordNumbers recordSize offset nodeCount ofTable nodeRoom build buildAnswer stepAt isJump jumps risingKinds nodeBound bigEndian signedBytes number unsignedAt signedAt bitsOf totalBits commandBytes wordCommand cellCommands cardCommands imageOf wordOf wordsOf cellOf cellsFrom cardFor descending closing groupingsWithin groupings addressWidth fitsFrom fits cost cheapest firstCheapest chosen plan planCell noCell entries sizeArray cellArray totals planAnswer imageFor compile report compileAnswer compileCells compileBuffer padded ascii decimalDigits decimal fields line mostListed isListed imageRoom tableOf listed shownNumbers nodeLine nodeLines cellLine tableText answerText listing flatMap
 checked-values = refl

@@ -11,7 +11,9 @@ pub mod Edges
 pub mod FirstBlocks
 pub mod Fits
 pub mod Forks
+pub mod Lists
 pub mod NodeCount
+pub mod NodeRanges
 pub mod Nodes
 pub mod Numbering
 pub mod Paths
@@ -19,4 +21,5 @@ pub mod RecordBlocks
 pub mod Reduced
 pub mod SameRecords
 pub mod Shifts
+pub mod Steps
 pub mod Walks

@@ -4,6 +4,7 @@ use mathlib.Core.Bool.{Bool, true, false, not}
 use mathlib.Core.List.{List, [], _∷_, map, flatMap}
 use lib.ListN.{length}
 use lib.IntN.{ℤ, pos, _-ℤ_}
+use Rattle.numbers.specs.Extremes.{leastOf, greatestOf}
 use Rattle.numbers.specs.Lists.{numbersFrom, keep}
 use Rattle.blocks.specs.Blocks.{blocks, first, lowerHalf, upperHalf, differences}
 use Rattle.blocks.specs.Classes.{same, numberIn, distinct}
@@ -29,20 +30,24 @@ node n table (suc i) values =
     elim (branches i values) [ true ↦ suc (recordsBelow n table i + numberIn (kinds n table i) (differences values)) | false ↦ node n table i (lowerHalf i values) ]
 
 -- Record (the paper's term), and its parts, which the paper names so too: the variable, low, the node of the lower half, high, the node of
--- the upper half, and the weight.
+-- the upper half, the weight, and the least and the greatest value of the node's function, which is 0 where all bits are 0.
 pub record Record : Type 0 where
   pub variable : ℕ
   pub low : ℕ
   pub high : ℕ
   pub weight : ℤ
+  pub least : ℤ
+  pub greatest : ℤ
 
--- The record of variable i of a block whose halves have height i.
+-- The record of variable i of a block whose halves have height i. Its node's function has the block's differences as values.
 unfoldable pub recordOf : ℕ → List ℤ → ℕ → List ℤ → Record
 recordOf n table i values = record {
   variable = i;
   low = node n table i (lowerHalf i values);
   high = node n table i (upperHalf i values);
   weight = first (upperHalf i values) -ℤ first (lowerHalf i values);
+  least = leastOf (differences values);
+  greatest = greatestOf (differences values);
 }
 
 -- The records of variable i, by first appearance.
@@ -55,11 +60,11 @@ records n table = flatMap (recordsAt n table) (numbersFrom 0 n)
 
 -- A record's numbers, as a buffer has them.
 unfoldable pub recordNumbers : Record → List ℤ
-recordNumbers r = pos (r .variable) ∷ pos (r .low) ∷ pos (r .high) ∷ r .weight ∷ []
+recordNumbers r = pos (r .variable) ∷ pos (r .low) ∷ pos (r .high) ∷ r .weight ∷ r .least ∷ r .greatest ∷ []
 
 -- How many numbers a record has.
 unfoldable pub recordSize : ℕ
-recordSize = 4
+recordSize = 6
 
 -- Offset (the paper's term): f(0).
 unfoldable pub offset : List ℤ → ℤ

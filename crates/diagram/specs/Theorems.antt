@@ -1,4 +1,5 @@
 -- Demand 2: the records are the reduced diagram, walking them gives the table back, and equal records tell tables apart up to a constant.
+-- Least and greatest: what they are, and what Walk's check asks of them.
 use Prim.Native.Nat.{ℕ, suc, _-_, _*_, _%_, _^_, _≤_, _<_}
 use mathlib.Core.Path.{_≡_, sym, _∙_, ap, ap₂}
 use mathlib.Core.Logic.{_↔_}
@@ -7,20 +8,27 @@ use mathlib.Core.List.{List, _++_, map, flatMap}
 use native.Mathlib.Omega.{arith}
 use lib.ListN.{length, getD, drop}
 use lib.IntN.{ℤ, pos, _+ℤ_, _-ℤ_}
+use lib.Signed.{mag, leZ}
 use Rattle.numbers.specs.Answers.{accepted, refused}
+use Rattle.numbers.specs.Extremes.{leastOf, greatestOf}
 use Rattle.numbers.specs.Ranges.{isVariables, isValue}
+use Rattle.numbers.specs.Laws.Bools.{yes-or-no}
+use Rattle.numbers.specs.Laws.Extremal.{leasts, greatests}
 use Rattle.blocks.specs.Blocks.{block, first, differences}
 use Rattle.diagram.specs.Accepted.{Accepted, written, nodeFunction}
 use Rattle.diagram.specs.Build.{nodeRoom, Summary, summaryOf, buildAnswer, buildBuffer, recordPart}
 use Rattle.diagram.specs.Records.{node, records, recordNumbers, recordSize, offset, nodeCount}
-use Rattle.diagram.specs.Walk.{variableAt, lowAt, highAt, weightAt, listFits, walk}
+use Rattle.diagram.specs.Walk.{variableAt, lowAt, highAt, weightAt, leastAt, greatestAt, edgesFit, pathWeight, nodeValues, recordCount, listFits, ofList, walk}
 use Rattle.diagram.specs.Laws.Builds.{build-answered, build-admits, build-summary, build-left, build-records, refused-kept}
-use Rattle.diagram.specs.Laws.Fits.{list-fits, written-room}
+use Rattle.diagram.specs.Laws.Edges.{record-passes}
+use Rattle.diagram.specs.Laws.Fits.{list-fits, written-room, fits-by-records}
+use Rattle.diagram.specs.Laws.NodeRanges.{before-value, some-value, passing-range, true-range-passes, fitting-small}
 use Rattle.diagram.specs.Laws.Nodes.{root-last}
-use Rattle.diagram.specs.Laws.Numbering.{records-count, records-room}
+use Rattle.diagram.specs.Laws.Numbering.{records-count, records-room, written-count}
 use Rattle.diagram.specs.Laws.RecordBlocks.{record-block}
 use Rattle.diagram.specs.Laws.Reduced.{block-differences, record-differences, not-redundant, one-function-one-node}
 use Rattle.diagram.specs.Laws.SameRecords.{same-records, records-shift}
+use Rattle.diagram.specs.Laws.Steps.{path-zero}
 use Rattle.diagram.specs.Laws.Walks.{walk-records}
 
 -- ---- Build: what is accepted, and what its buffer then holds
@@ -53,7 +61,7 @@ records-pass n table a = list-fits n table (a .size) (a .values)
 
 -- A list that fails its check is refused for that at every X, one past the table too.
 pub list-before-x : (n : ℕ) (start : ℤ) (list : List ℤ) → isVariables n ≡ true → isValue start ≡ true → listFits n list ≡ false → (x : ℕ) → walk n start list x ≡ refused 6
-unfolding walk
+unfolding walk ofList
 list-before-x n start list inside ranged unfit x = rw (inside, ranged, unfit)
 
 -- Walking them gives f(X) at every X below 2^n.
@@ -121,6 +129,63 @@ no-redundant-record n table a k h l both = not-redundant n table (a .size) k (re
 -- No two nodes, records or the terminal, stand for one function.
 pub no-two-nodes-alike : (n : ℕ) (table : List ℤ) → Accepted n table → (j k : ℕ) → j ≤ length (records n table) → k ≤ length (records n table) → ((x : ℕ) → x < 2 ^ n → nodeFunction n table j x ≡ nodeFunction n table k x) → j ≡ k
 no-two-nodes-alike n table a = one-function-one-node n table (a .size)
+
+-- ---- least and greatest
+
+-- A node's function is 0 where all bits are 0, in any list.
+pub zero-at-zero : (n : ℕ) (list : List ℤ) (k : ℕ) → pathWeight list n k 0 ≡ pos 0
+zero-at-zero n list k = path-zero list n k
+
+-- In a list that passes Walk's check, the fifth number of a record is the least value of its function: at no X is there less, and at some X it is met.
+pub least-of-record : (n : ℕ) (list : List ℤ) → listFits n list ≡ true → (k : ℕ) → 1 ≤ k → k ≤ recordCount list
+    → ((x : ℕ) → x < 2 ^ n → leZ (leastAt list k) (pathWeight list n k x) ≡ true) × ((x : ℕ) × ((x < 2 ^ n) × (leastAt list k ≡ pathWeight list n k x)))
+least-of-record n list fits k one l =
+    let e = passing-range n list k (record-passes n list fits k one l) .0 in
+    let m = some-value leasts n list k in
+    ((λ x h. ap (λ z. leZ z (pathWeight list n k x)) e ∙ before-value leasts n list k x h), (m .0, (m .1 .0, e ∙ m .1 .1)))
+
+-- And the sixth the greatest.
+pub greatest-of-record : (n : ℕ) (list : List ℤ) → listFits n list ≡ true → (k : ℕ) → 1 ≤ k → k ≤ recordCount list
+    → ((x : ℕ) → x < 2 ^ n → leZ (pathWeight list n k x) (greatestAt list k) ≡ true) × ((x : ℕ) × ((x < 2 ^ n) × (greatestAt list k ≡ pathWeight list n k x)))
+greatest-of-record n list fits k one l =
+    let e = passing-range n list k (record-passes n list fits k one l) .1 in
+    let m = some-value greatests n list k in
+    ((λ x h. ap (leZ (pathWeight list n k x)) e ∙ before-value greatests n list k x h), (m .0, (m .1 .0, e ∙ m .1 .1)))
+
+-- So it is in what Build writes: what passes is written, and read by the same names.
+pub build-least : (n : ℕ) (table : List ℤ) → Accepted n table → (k : ℕ) → 1 ≤ k → k ≤ length (records n table)
+    → ((x : ℕ) → x < 2 ^ n → leZ (leastAt (written n table) k) (nodeFunction n table k x) ≡ true) × ((x : ℕ) × ((x < 2 ^ n) × (leastAt (written n table) k ≡ nodeFunction n table k x)))
+build-least n table a k one l = least-of-record n (written n table) (records-pass n table a) k one (let c = written-count n table in omega arith)
+
+pub build-greatest : (n : ℕ) (table : List ℤ) → Accepted n table → (k : ℕ) → 1 ≤ k → k ≤ length (records n table)
+    → ((x : ℕ) → x < 2 ^ n → leZ (nodeFunction n table k x) (greatestAt (written n table) k) ≡ true) × ((x : ℕ) × ((x < 2 ^ n) × (greatestAt (written n table) k ≡ nodeFunction n table k x)))
+build-greatest n table a k one l = greatest-of-record n (written n table) (records-pass n table a) k one (let c = written-count n table in omega arith)
+
+-- A list with an untrue number in some record is refused with 6, also at an X past the table.
+pub untrue-least-refused : (n : ℕ) (start : ℤ) (list : List ℤ) → isVariables n ≡ true → isValue start ≡ true → (k : ℕ) → 1 ≤ k → k ≤ recordCount list → ¬ (leastAt list k ≡ leastOf (nodeValues n list k)) → (x : ℕ) → walk n start list x ≡ refused 6
+untrue-least-refused n start list v s k one l untrue x =
+    yes-or-no (listFits n list)
+    (λ e. absurd (untrue (passing-range n list k (record-passes n list e k one l) .0)))
+    (λ e. list-before-x n start list v s e x)
+
+pub untrue-greatest-refused : (n : ℕ) (start : ℤ) (list : List ℤ) → isVariables n ≡ true → isValue start ≡ true → (k : ℕ) → 1 ≤ k → k ≤ recordCount list → ¬ (greatestAt list k ≡ greatestOf (nodeValues n list k)) → (x : ℕ) → walk n start list x ≡ refused 6
+untrue-greatest-refused n start list v s k one l untrue x =
+    yes-or-no (listFits n list)
+    (λ e. absurd (untrue (passing-range n list k (record-passes n list e k one l) .1)))
+    (λ e. list-before-x n start list v s e x)
+
+module _ (n : ℕ) (list : List ℤ) (edges : (k : ℕ) → 1 ≤ k → k ≤ recordCount list → edgesFit n list k ≡ true) where
+  -- A list of fitting edges, reduced or not and with unused records or not, passes with true numbers.
+  pub true-numbers-pass : length list % recordSize ≡ 0 → length list ≤ nodeRoom n → ((k : ℕ) → 1 ≤ k → k ≤ recordCount list → (leastAt list k ≡ leastOf (nodeValues n list k)) × (greatestAt list k ≡ greatestOf (nodeValues n list k))) → listFits n list ≡ true
+  true-numbers-pass whole room true-numbers =
+      fits-by-records n list whole room (λ k one l. let t = true-numbers k one l in true-range-passes n list k (edges k one l) (t .0) (t .1))
+
+  -- And these fit 32 bits, on a path of twelve extreme weights too.
+  pub true-least-fits : n ≤ 12 → (k : ℕ) → k ≤ recordCount list → mag (leastOf (nodeValues n list k)) < 2 ^ 31
+  true-least-fits v k l = let m = fitting-small n list edges leasts v k l in omega arith
+
+  pub true-greatest-fits : n ≤ 12 → (k : ℕ) → k ≤ recordCount list → mag (greatestOf (nodeValues n list k)) < 2 ^ 31
+  true-greatest-fits v k l = let m = fitting-small n list edges greatests v k l in omega arith
 
 -- ---- how many records there are
 

@@ -6,7 +6,7 @@ pub enum Built {
     Refused(u8),
 }
 
-// The outcome of the checks on a table.
+// The outcome of the checks on a table, or on a record list.
 pub enum Checked {
     Passed,
     Refused(u8),
@@ -22,6 +22,18 @@ pub enum Walked {
 pub struct Edge {
     pub weight: i32,
     pub node: usize,
+}
+
+// What a path has reached: the value so far, and the next node.
+pub struct Reached {
+    pub value: i32,
+    pub node: usize,
+}
+
+// The least and the greatest value of a function.
+pub struct Range {
+    pub least: i32,
+    pub greatest: i32,
 }
 
 // What Build learns of a class: the nodes of its halves, its weight, and whether it branches.

@@ -7,7 +7,7 @@ use listings::TEXT_ROOM;
 use stdin::Input;
 
 // One byte more than the longest admitted input: the bytes behind these do not change the text.
-const KEPT: usize = 16387;
+const KEPT: usize = 8195;
 
 // Reads to the end of the input and keeps its first bytes.
 fn read_input(buffer: &mut [u8; KEPT]) -> Input

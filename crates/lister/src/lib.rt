@@ -32,13 +32,13 @@ pub fn list_input(input: &[u8], text: &mut [u8]) -> usize
     }
     let n = input[0] as usize;
     let limit = input[1] as usize;
-    if !numbers::is_variables(n) {
+    if !listing::input::is_listed(n) {
         return fields::write_refusal(text, 1);
     }
     let count = numbers::power(n);
     if input.len() != 2 + 4 * count {
         return fields::write_refusal(text, 2);
     }
-    let mut values = [0i32; 4096];
+    let mut values = [0i32; 2048];
     list_values(input, n, limit, &mut values, text)
 }

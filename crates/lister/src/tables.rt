@@ -3,7 +3,7 @@ ghost use Prim.Native.Nat.{_≤_};
 ghost use lib.ListN.{length};
 ghost use Rattle.cascade.specs.Plan.{plan};
 ghost use Rattle.cascade.specs.Inner.Planned.{groups};
-ghost use Rattle.listing.specs.Listing.{tableText, answerText};
+ghost use Rattle.listing.specs.Listing.{mostListed, tableText, answerText};
 ghost use Rattle.lister.specs.Inner.Listed.{TextReady};
 ghost use Rattle.listing.specs.Program.{textRoom};
 ghost use Rattle.lines.specs.Inner.Writing.{Writes};
@@ -22,7 +22,7 @@ fn write_table(
     requires { ⌜ TextReady n (now table) cells count bits (now text) ⌝ }
     ensures { λ r. ⌜ Writes (now (text .entry)) 0 (tableText n (now (table .entry)) (groups cells count)) r (now (text .exit)) ⌝ }
 {
-    let mut nodes = [0i32; 16380];
+    let mut nodes = [0i32; 12282];
     match builder::build(n, table, &mut nodes) {
         diagram::Built::Refused(number) => fields::write_refusal(text, number),
         diagram::Built::Diagram { nodes: all, offset } => {
@@ -34,7 +34,7 @@ fn write_table(
 
 // The text of a table and an address limit, in front: Plan's refusal, or the table's lines. Answers its length.
 pub(crate) fn list_table(n: usize, table: &[i32], limit: usize, text: &mut [u8]) -> usize
-    requires { ⌜ textRoom ≤ length (now text) ⌝ }
+    requires { ⌜ (n ≤ mostListed) × (textRoom ≤ length (now text)) ⌝ }
     ensures { λ r. ⌜ Writes (now (text .entry)) 0 (answerText n (now (table .entry)) (plan n (now (table .entry)) limit)) r (now (text .exit)) ⌝ }
 {
     let planned = planner::plan(n, table, limit);

@@ -3,4 +3,5 @@ pub mod Apart
 pub mod Inputs
 pub mod Lengths
 pub mod Listed
+pub mod Shown
 pub mod Values

@@ -3,19 +3,20 @@ use Prim.Native.Nat.{ℕ, suc}
 use Prim.Native.String.{String}
 use mathlib.Core.List.{List, [], _∷_, _++_, map}
 use lib.IntN.{ℤ, pos}
-use Rattle.diagram.specs.Records.{Record, records, recordNumbers, offset, nodeCount}
+use Rattle.diagram.specs.Records.{Record, records, offset, nodeCount}
 use Rattle.image.specs.Cells.{Cell, bitsOf, totalBits}
 use Rattle.cascade.specs.Cascade.{cellsFrom}
 use Rattle.lines.specs.Text.{ascii}
 use Rattle.lines.specs.Reading.{Line}
+use Rattle.listing.specs.Listing.{shownNumbers}
 
 abbrev pub lineWith : String → List ℤ → Line
 lineWith word numbers = record { word = ascii word; numbers = numbers }
 
--- Records by rising number, from k on.
+-- The numbers that the lines of records show, by rising number, from k on.
 unfoldable pub recordEntries : ℕ → List Record → List Line
 recordEntries k [] = []
-recordEntries k (r ∷ more) = lineWith "node" (pos k ∷ recordNumbers r) ∷ recordEntries (suc k) more
+recordEntries k (r ∷ more) = lineWith "node" (pos k ∷ shownNumbers r) ∷ recordEntries (suc k) more
 
 unfoldable pub cellEntry : Cell → Line
 cellEntry cell = lineWith "cell" (pos (cell .group) ∷ pos (cell .incoming) ∷ pos (cell .outgoing) ∷ pos (cell .width) ∷ pos (bitsOf cell) ∷ [])

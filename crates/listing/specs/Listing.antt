@@ -1,18 +1,26 @@
 -- The listing program's output, as a function of its input's bytes.
 use Prim.Native.Nat.{ℕ, suc, _+_, _-_, _*_, _/_, _^_}
+use mathlib.Core.Bool.{Bool, _&&_}
 use mathlib.Core.List.{List, [], _∷_, _++_, map, flatMap}
 use lib.ListN.{length, getD}
 use lib.Dec.{leb, eqb}
 use lib.IntN.{ℤ, pos}
 use Rattle.numbers.specs.Answers.{Answer, accepted, refused, unless}
 use Rattle.numbers.specs.Lists.{numbersFrom}
-use Rattle.numbers.specs.Ranges.{isVariables}
-use Rattle.diagram.specs.Records.{Record, records, recordNumbers, offset, nodeCount}
+use Rattle.diagram.specs.Records.{Record, records, offset, nodeCount}
 use Rattle.operands.specs.Bytes.{signedAt}
 use Rattle.image.specs.Cells.{Cell, bitsOf, totalBits}
 use Rattle.cascade.specs.Cascade.{cellsFrom}
 use Rattle.cascade.specs.Compile.{compile}
 use Rattle.lines.specs.Text.{line}
+
+-- The most variables of a table that is listed.
+unfoldable pub mostListed : ℕ
+mostListed = 11
+
+-- n of a table that is listed: 1 to 11. Build, Plan and Compile take 12 too.
+unfoldable pub isListed : ℕ → Bool
+isListed n = leb 1 n && leb n mostListed
 
 -- The image buffer of the listing program.
 unfoldable pub imageRoom : ℕ
@@ -22,16 +30,20 @@ imageRoom = 65536
 unfoldable pub tableOf : List ℕ → List ℤ
 tableOf input = map (λ j. signedAt input (2 + 4 * j)) (numbersFrom 0 ((length input - 2) / 4))
 
--- The chosen sizes: under two bytes 2; then Compile's order, 2 being a wrong byte count.
+-- The chosen sizes: under two bytes 2; then Compile's order, 1 being an n that is not listed and 2 a wrong byte count.
 unfoldable pub listed : List ℕ → Answer (List ℕ)
 listed input =
     unless (leb 2 (length input)) 2
-    (unless (isVariables (getD input 0 0)) 1
+    (unless (isListed (getD input 0 0)) 1
     (unless (eqb (length input) (2 + 4 * 2 ^ getD input 0 0)) 2
     (compile (getD input 0 0) (tableOf input) (getD input 1 0) imageRoom)))
 
+-- The numbers of a record that its line shows.
+unfoldable pub shownNumbers : Record → List ℤ
+shownNumbers r = pos (r .variable) ∷ pos (r .low) ∷ pos (r .high) ∷ r .weight ∷ []
+
 unfoldable pub nodeLine : ℕ → Record → List ℕ
-nodeLine k r = line "node" (pos k ∷ recordNumbers r)
+nodeLine k r = line "node" (pos k ∷ shownNumbers r)
 
 -- Node lines by rising number, from k on.
 unfoldable pub nodeLines : ℕ → List Record → List ℕ

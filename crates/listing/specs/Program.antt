@@ -11,7 +11,7 @@ use Rattle.listing.specs.declared.Listed.the-variants.{Text, TooShort}
 
 -- The bytes of a text buffer that holds the text of every input.
 unfoldable pub textRoom : ℕ
-textRoom = 225943
+textRoom = 113248
 
 -- The text's length; a buffer that does not hold the text of every input is too short.
 unfoldable pub listAnswer : List ℕ → ℕ → Listed

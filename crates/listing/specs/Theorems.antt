@@ -1,6 +1,7 @@
 -- What the listing program writes, for every input: which line each refusal prints and when, the table's text otherwise, numbers that are
 -- read back, and an input's bytes beyond the longest admitted one.
 use Prim.Native.Nat.{ℕ, _+_, _*_, _^_, _≤_, _<_}
+use mathlib.Core.Logic.{_↔_}
 use mathlib.Core.Path.{_≡_, sym, _∙_, ap}
 use mathlib.Core.Bool.{true, false}
 use mathlib.Core.List.{List, [], _∷_, flatMap}
@@ -12,23 +13,27 @@ use lib.IntN.{ℤ, pos, negℤ}
 use borrow.Author.Tests.{leb-true, leb-false}
 use Rattle.numbers.specs.Answers.{Answer, accepted, refused}
 use Rattle.numbers.specs.Lists.{every}
-use Rattle.numbers.specs.Ranges.{within, isVariables, isLimit, isValue}
+use Rattle.numbers.specs.Ranges.{within, isLimit, isValue}
 use Rattle.numbers.specs.Laws.Bools.{yes-or-no}
 use Rattle.operands.specs.Bytes.{signedBytes}
 use Rattle.cascade.specs.Groupings.{BestGrouping, chosen, fits, isGrouping}
 use Rattle.cascade.specs.Laws.Chosen.{chosen-refuses, best-chosen}
 use Rattle.lines.specs.Reading.{readLines}
-use Rattle.listing.specs.Listing.{tableOf, listed, tableText, answerText, listing}
+use Rattle.listing.specs.Listing.{isListed, tableOf, listed, tableText, answerText, listing}
 use Rattle.lines.specs.Text.{ascii, decimalDigits, decimal, fields, line}
 use Rattle.listing.specs.Lines.{tableLines}
 use Rattle.listing.specs.Laws.Apart.{text-apart}
 use Rattle.listing.specs.Laws.Inputs.{input-back}
 use Rattle.listing.specs.Laws.Lengths.{listing-length}
-use Rattle.listing.specs.Laws.Listed.{listed-under-two, listed-outside, listed-miscounted, listed-counted, listed-refused, listed-too-long}
+use Rattle.listing.specs.Laws.Listed.{listed-range, range-listed, listed-under-two, listed-outside, listed-miscounted, listed-counted, listed-refused, listed-too-long}
 
 -- The bytes of the line `refused` with a number of one digit.
 abbrev refusedBy : ℕ → List ℕ
 refusedBy number = 114 ∷ 101 ∷ 102 ∷ 117 ∷ 115 ∷ 101 ∷ 100 ∷ 32 ∷ (48 + number) ∷ 10 ∷ []
+
+-- The numbers of variables that are listed: 1 to 11.
+pub variables-listed : (n : ℕ) → (isListed n ≡ true) ↔ ((1 ≤ n) × (n ≤ 11))
+variables-listed n = (listed-range n, (λ range. range-listed n (range .0) (range .1)))
 
 module _ (input : List ℕ) where
   -- n, A and the values, as the input gives them.
@@ -51,12 +56,12 @@ module _ (input : List ℕ) where
   unfolding answerText line ascii fields decimal decimalDigits
   under-two-bytes short = printed (refused 2) (listed-under-two input short)
 
-  -- n outside 1..12.
-  pub variables-outside : 2 ≤ length input → isVariables n ≡ false → listing input ≡ refusedBy 1
+  -- n outside 1..11.
+  pub variables-outside : 2 ≤ length input → isListed n ≡ false → listing input ≡ refusedBy 1
   unfolding answerText line ascii fields decimal decimalDigits
   variables-outside two outside = printed (refused 1) (listed-outside input two outside)
 
-  module _ (inside : isVariables n ≡ true) where
+  module _ (inside : isListed n ≡ true) where
     -- A wrong byte count.
     pub byte-count-wrong : 2 ≤ length input → (length input ≡ 2 + 4 * 2 ^ n → ⊥) → listing input ≡ refusedBy 2
     unfolding answerText line ascii fields decimal decimalDigits
@@ -91,7 +96,8 @@ module _ (input : List ℕ) where
 
 -- ---- the text taken apart
 
--- The lines of a table's text, with their fields, give n, offset, the records, the node count, the cells and the total back.
+-- The lines of a table's text, with their fields, give n, offset, variable, low, high and weight of each record, the node count, the cells
+-- and the total back.
 pub text-read-back : (n : ℕ) (table : List ℤ) (sizes : List ℕ) → readLines (tableText n table sizes) ≡ tableLines n table sizes
 text-read-back = text-apart
 
@@ -103,8 +109,8 @@ input-read-back = input-back
 
 -- ---- lengths
 
--- Every text has at most 225,943 bytes.
-pub text-fits : (input : List ℕ) → length (listing input) ≤ 225943
+-- Every text has at most 113,248 bytes.
+pub text-fits : (input : List ℕ) → length (listing input) ≤ 113248
 text-fits = listing-length
 
 -- The image always has room: 10 never occurs.
@@ -112,16 +118,16 @@ pub never-ten : (input : List ℕ) → listed input ≡ refused 10 → ⊥
 never-ten input e = let nine = listed-refused input 10 e in omega arith
 
 -- Bytes beyond one more than those of the longest admitted input do not matter.
-pub bytes-beyond : (input : List ℕ) → listing (take (3 + 4 * 2 ^ 12) input) ≡ listing input
+pub bytes-beyond : (input : List ℕ) → listing (take (3 + 4 * 2 ^ 11) input) ≡ listing input
 unfolding listing answerText
 bytes-beyond input =
-    yes-or-no (leb (length input) (3 + 4 * 2 ^ 12))
-    (λ short. ap listing (take-all (3 + 4 * 2 ^ 12) input (leb-true (length input) (3 + 4 * 2 ^ 12) short)))
+    yes-or-no (leb (length input) (3 + 4 * 2 ^ 11))
+    (λ short. ap listing (take-all (3 + 4 * 2 ^ 11) input (leb-true (length input) (3 + 4 * 2 ^ 11) short)))
     (λ long.
-    let l = leb-false (length input) (3 + 4 * 2 ^ 12) long in
-    let less = length-take-le (3 + 4 * 2 ^ 12) input (omega arith) in
-    let refusals = listed-too-long input shorter (omega arith) (omega arith) (getD-take (3 + 4 * 2 ^ 12) input 0 0 (omega arith)) in
+    let l = leb-false (length input) (3 + 4 * 2 ^ 11) long in
+    let less = length-take-le (3 + 4 * 2 ^ 11) input (omega arith) in
+    let refusals = listed-too-long input shorter (omega arith) (omega arith) (getD-take (3 + 4 * 2 ^ 11) input 0 0 (omega arith)) in
     ap (answerText (getD shorter 0 0) (tableOf shorter)) (refusals .1 .1) ∙ sym (ap (answerText (getD input 0 0) (tableOf input)) (refusals .1 .0)))
   where
     shorter : List ℕ
-    shorter = take (3 + 4 * 2 ^ 12) input
+    shorter = take (3 + 4 * 2 ^ 11) input

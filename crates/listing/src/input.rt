@@ -1,8 +1,19 @@
-// The values of an input.
+// An input: whether its number of variables is listed, and its values.
 ghost use mathlib.Core.Path.{_≡_};
 ghost use Prim.Native.Nat.{_+_, _*_, _≤_};
 ghost use lib.ListN.{length};
 ghost use Rattle.listing.specs.Inner.Values.{valuesOf};
+ghost use Rattle.listing.specs.Listing.{isListed};
+
+// Whether a table of n variables is listed.
+pub fn is_listed(n: usize) -> bool
+    ensures { λ r. ⌜ r ≡ isListed n ⌝ }
+{
+    if n < 1 {
+        return false;
+    }
+    n <= 11
+}
 
 // The values behind the first two bytes, as many as there are places.
 pub fn read_values(input: &[u8], values: &mut [i32])

@@ -3,4 +3,4 @@ use Prim.Native.Nat.{ℕ, _+_, _*_, _^_}
 
 -- One byte more than the longest admitted input has.
 unfoldable pub keptBytes : ℕ
-keptBytes = 3 + 4 * 2 ^ 12
+keptBytes = 3 + 4 * 2 ^ 11

@@ -4,7 +4,7 @@ ghost use Rattle.listings.specs.Text.{ListsKept};
 use listing::Listed;
 
 // The bytes of a buffer that holds the text of every input.
-pub const TEXT_ROOM: usize = 225943;
+pub const TEXT_ROOM: usize = 113248;
 
 // The listing program's text for an input, written into the lent buffer where that holds the text of every input.
 pub fn list(input: &[u8], text: &mut [u8]) -> Listed

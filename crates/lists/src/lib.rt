@@ -1,58 +1,27 @@
-// Record lists: their numbers, and Walk's check of them.
+// Record lists: Walk's check of them.
 ghost use mathlib.Core.Path.{_≡_};
 ghost use mathlib.Core.Bool.{true};
-ghost use Prim.Native.Nat.{_-_, _≤_, _<_};
-ghost use lib.IntN.{pos};
 ghost use Rattle.numbers.specs.Lists.{numbersFrom, every};
-ghost use Rattle.numbers.specs.Ranges.{isVariables, within};
-ghost use Rattle.diagram.specs.Walk.{childFits, recordFits, recordCount, listFits};
-ghost use Rattle.diagram.specs.Inner.Edges.{Recorded};
+ghost use Rattle.numbers.specs.Ranges.{isVariables};
+ghost use Rattle.diagram.specs.Walk.{recordFits, recordCount, listFits};
+ghost use Rattle.diagram.specs.Inner.Checks.{listChecks, checked};
+ghost use Rattle.diagram.specs.Inner.Edges.{Recorded, EarlierPass};
+use diagram::Checked;
 
-// Whether a number is one of the first of so many, from 0.
-fn is_below(number: i32, count: usize) -> bool
-    requires { ⌜ 1 ≤ count ⌝ }
-    ensures { λ r. ⌜ r ≡ within (pos 0) (pos (count - 1)) number ⌝ }
-{
-    if number < 0 {
-        return false;
-    }
-    (number as usize) < count
-}
-
-// Whether a child of record k is node 0 or an earlier record of a lower variable.
-fn child_fits(records: &[i32], k: usize, child: i32) -> bool
-    requires { ⌜ Recorded (now records) k ⌝ }
-    ensures { λ r. ⌜ r ≡ childFits (now (records .entry)) k child ⌝ }
-{
-    if !is_below(child, k) {
-        return false;
-    }
-    if child == 0 {
-        return true;
-    }
-    records::number_at(records, child as usize, 0) < records::number_at(records, k, 0)
-}
-
-// Whether record k passes Walk's check.
+// Whether record k passes Walk's check, where all records before it do: they tell the ranges of its children.
 fn record_fits(n: usize, records: &[i32], k: usize) -> bool
-    requires { ⌜ (1 ≤ n) × Recorded (now records) k ⌝ }
+    requires { ⌜ (isVariables n ≡ true) × Recorded (now records) k × EarlierPass n (now records) k ⌝ }
     ensures { λ r. ⌜ r ≡ recordFits n (now (records .entry)) k ⌝ }
 {
-    if !is_below(records::number_at(records, k, 0), n) {
+    if !edges::edges_fit(n, records, k) {
         return false;
     }
-    if !child_fits(records, k, records::number_at(records, k, 1)) {
-        return false;
-    }
-    if !child_fits(records, k, records::number_at(records, k, 2)) {
-        return false;
-    }
-    numbers::is_within(-16777215, 16777215, records::number_at(records, k, 3))
+    node_ranges::range_follows(records, k)
 }
 
 // Whether every record does.
 fn records_fit(n: usize, records: &[i32]) -> bool
-    requires { ⌜ 1 ≤ n ⌝ }
+    requires { ⌜ isVariables n ≡ true ⌝ }
     ensures { λ r. ⌜ r ≡ every (recordFits n (now (records .entry))) (numbersFrom 1 (recordCount (now (records .entry)))) ⌝ }
 {
     let count = records.len() / records::RECORD_SIZE;
@@ -67,7 +36,7 @@ fn records_fit(n: usize, records: &[i32]) -> bool
 }
 
 // Whether a record list passes Walk's check.
-pub fn list_fits(n: usize, records: &[i32]) -> bool
+fn list_fits(n: usize, records: &[i32]) -> bool
     requires { ⌜ isVariables n ≡ true ⌝ }
     ensures { λ r. ⌜ r ≡ listFits n (now (records .entry)) ⌝ }
 {
@@ -78,4 +47,20 @@ pub fn list_fits(n: usize, records: &[i32]) -> bool
         return false;
     }
     records_fit(n, records)
+}
+
+// The checks on an offset and a record list, in their order.
+pub fn check_list(n: usize, offset: i32, records: &[i32]) -> Checked
+    ensures { λ r. ⌜ checked r ≡ listChecks n offset (now (records .entry)) ⌝ }
+{
+    if !numbers::is_variables(n) {
+        return Checked::Refused(1);
+    }
+    if !numbers::is_within(-8388608, 8388607, offset) {
+        return Checked::Refused(5);
+    }
+    if !list_fits(n, records) {
+        return Checked::Refused(6);
+    }
+    Checked::Passed
 }

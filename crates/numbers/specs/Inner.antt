@@ -1,4 +1,3 @@
 -- What inner functions promise and hold.
 pub mod Bits
-pub mod Extremes
 pub mod Rows

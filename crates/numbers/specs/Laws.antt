@@ -3,6 +3,7 @@ pub mod Answers
 pub mod BitLength
 pub mod Bools
 pub mod Bounds
+pub mod Extremal
 pub mod Extremes
 pub mod Integers
 pub mod Least

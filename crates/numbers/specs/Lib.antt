@@ -1,6 +1,7 @@
 -- At the top the paper's ranges and widths, the form of every operation's answer, and what lists are made of. Inner has what inner
 -- functions promise and hold, Laws what is proved of both.
 pub mod Answers
+pub mod Extremes
 pub mod Lists
 pub mod Ranges
 pub mod Widths

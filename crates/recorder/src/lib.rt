@@ -35,7 +35,17 @@ fn place_class(
         set_in_cut(row, h, c, fork.low);
         return made;
     }
-    records::write_record(nodes, made, n - (h + 1), fork.low, fork.high, fork.weight);
+    let range = ranges::class_range(n, h, c, table, firsts);
+    records::write_record(
+        nodes,
+        made,
+        n - (h + 1),
+        fork.low,
+        fork.high,
+        fork.weight,
+        range.least,
+        range.greatest,
+    );
     set_in_cut(row, h, c, made + 1);
     made + 1
 }

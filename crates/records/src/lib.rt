@@ -9,7 +9,7 @@ ghost use Rattle.diagram.specs.Walk.{numberAt};
 ghost use Rattle.diagram.specs.Inner.Edges.{Recorded};
 
 // How many numbers a record has.
-pub const RECORD_SIZE: usize = 4;
+pub const RECORD_SIZE: usize = 6;
 
 // The numbers that a node buffer must have room for.
 pub fn node_room(n: usize) -> usize
@@ -35,14 +35,18 @@ pub fn write_record(
     low: usize,
     high: usize,
     weight: i32,
+    least: i32,
+    greatest: i32,
 )
     requires { ⌜ recordSize * made + recordSize ≤ length (now nodes) ⌝ }
     requires { ⌜ (variable < 4096) × ((low < 4096) × (high < 4096)) ⌝ }
-    ensures { λ _. ⌜ now (nodes .exit) ≡ overwritten (now (nodes .entry)) (recordSize * made) (recordNumbers (record { variable = variable; low = low; high = high; weight = weight })) ⌝ }
+    ensures { λ _. ⌜ now (nodes .exit) ≡ overwritten (now (nodes .entry)) (recordSize * made) (recordNumbers (record { variable = variable; low = low; high = high; weight = weight; least = least; greatest = greatest })) ⌝ }
 {
     let at = RECORD_SIZE * made;
     nodes[at] = variable as i32;
     nodes[at + 1] = low as i32;
     nodes[at + 2] = high as i32;
     nodes[at + 3] = weight;
+    nodes[at + 4] = least;
+    nodes[at + 5] = greatest;
 }

@@ -11,10 +11,10 @@ use stdin::Input;
 // One byte more than the longest text that is read.
 const KEPT: usize = 1048577;
 
-// The bytes of the longest input of the listing, and of its text.
+// The bytes of the longest input that a text gives, and of the longest text of a listing.
 const INPUT_ROOM: usize = 16386;
 
-const TEXT_ROOM: usize = 225943;
+const TEXT_ROOM: usize = 113248;
 
 // What a text gives: the length of its listing, or the line on which something else was expected.
 enum Answer {

@@ -1,14 +1,15 @@
 //! The operations as several test files call them, with patterns in buffers.
 #![allow(dead_code)]
 
-use panstrait_reference::{build, compile, Built, Cell, Compiled, Refusal};
+use panstrait_reference::{build, compile, report, Built, Cell, Compiled, Refusal};
+use panstrait_samples::oracle::Numbers;
 use panstrait_samples::*;
 
 /// Build's answer and its records; a success leaves the rest of the buffer.
 pub fn built(n: usize, table: &[i32]) -> (Built, Vec<i32>) {
     let mut nodes = vec![NUMBER; node_numbers(n) + 5];
     let built = build(n, table, &mut nodes).expect("a sound table");
-    let records = 4 * (built.nodes - 1);
+    let records = RECORD * (built.nodes - 1);
     assert!(nodes[records..].iter().all(|&v| v == NUMBER));
     nodes.truncate(records);
     (built, nodes)
@@ -21,6 +22,18 @@ pub fn compiled(n: usize, table: &[i32], limit: usize) -> Result<(Compiled, Vec<
     assert!(image[compiled.length..].iter().all(|&b| b == BYTE));
     image.truncate(compiled.length);
     Ok((compiled, image))
+}
+
+/// Report's answer as the numbers it has.
+pub fn reported(
+    n: usize,
+    offset: i32,
+    records: &[i32],
+    a: usize,
+    b: usize,
+) -> Result<Numbers, Refusal> {
+    let answer = report(n, offset, records, a, b);
+    answer.map(|r| (r.count, r.least, r.greatest, r.sum))
 }
 
 /// The input bytes of the listing program.

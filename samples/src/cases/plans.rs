@@ -2,7 +2,7 @@
 //! for several reasons.
 
 use crate::cases::TIE;
-use crate::{oracle, tables, Cascade, FIGURE, GREATEST, LEAST};
+use crate::{oracle, tables, Cascade, FIGURE, GREATEST, LEAST, RECORD};
 
 /// A table and a limit with the chosen cells: group, incoming count, outgoing
 /// count, weight width and bits of each.
@@ -34,7 +34,7 @@ impl ChosenPlan {
     }
 
     pub fn nodes(&self) -> usize {
-        oracle::records(self.n, &self.table).len() / 4 + 1
+        oracle::records(self.n, &self.table).len() / RECORD + 1
     }
 }
 

@@ -26,6 +26,13 @@ pub block-at : (table : List ℤ) (i j x : ℕ) → x < 2 ^ i → getD (block ta
 unfolding block
 block-at table i j x h = getD-take (2 ^ i) (drop (j * 2 ^ i) table) x (pos 0) h ∙ getD-drop (j * 2 ^ i) table x (pos 0)
 
+-- The part of the table from a block's start to its end is the block.
+pub block-part : (table : List ℤ) (size i j : ℕ) → size ≡ 2 ^ i → take (j * size + size - j * size) (drop (j * size) table) ≡ block table i j
+unfolding block
+block-part table size i j e =
+    ap (λ n. take n (drop (j * size) table)) (let d : j * size + size - j * size ≡ size = omega arith in d)
+    ∙ ap (λ s. take s (drop (j * s) table)) e
+
 -- The first value of a block stands where the block begins.
 pub first-of-block : (table : List ℤ) (i j : ℕ) → first (block table i j) ≡ getD table (j * 2 ^ i) (pos 0)
 unfolding first

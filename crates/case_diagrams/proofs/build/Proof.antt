@@ -33,7 +33,7 @@ array-borrow-prefix-lent : tie.Need-array-borrow-prefix-lent
 array-borrow-prefix-lent c = search needs
 
 slice-aggregate-build : tie.Need-slice-aggregate-build
-slice-aggregate-build c = sym (length-take-le _ _ (let few : c .before .before .size-at2 .result ≤ 16380 = omega arith in few))
+slice-aggregate-build c = sym (length-take-le _ _ (let few : c .before .before .size-at2 .result ≤ 24570 = omega arith in few))
 
 build-requires : tie.Need-build-requires
 build-requires c κs = search needs
@@ -52,7 +52,7 @@ module _ (c : tie.After-build) where
   abbrev left : List ℤ
   left = c .build .last .1 .1 .0
 
-  few : sized .size-at2 .result ≤ 16380
+  few : sized .size-at2 .result ≤ 24570
   few = omega arith
 
   kept : length left ≡ sized .size-at2 .result
@@ -61,7 +61,7 @@ module _ (c : tie.After-build) where
   judged : buildPasses (start .args .numbers .now) (start .args .table .now) (start .args .front .now) ≡ (builtIs (start .args .numbers .now) (built (c .build .result)) && frontHolds numberLent left (start .args .front .now))
   judged =
       build-judged (start .args .numbers .now) (start .args .table .now) (start .args .front .now) (sized .before .size-at .ensures .0) (sized .size-at2 .ensures .0)
-      (take (sized .size-at2 .result) (replicate 16380 numberLent)) (c .build .result) left few (lent-front numberLent (sized .size-at2 .result) 16380 few) (c .build .ensures)
+      (take (sized .size-at2 .result) (replicate 24570 numberLent)) (c .build .result) left few (lent-front numberLent (sized .size-at2 .result) 24570 few) (c .build .ensures)
 
 built-is-requires : tie.Need-built-is-requires
 built-is-requires c κs = search needs

@@ -1,24 +1,20 @@
 -- Rows compared place by place, and a row's numbers stored as bytes.
 use Prim.Native.Nat.{ℕ, zero, suc, _+_, _-_, _≤_, _<_}
 use mathlib.Core.Path.{_≡_, refl, sym, _∙_, ap, ap₂}
-use mathlib.Core.Bool.{true, false, _&&_, false≢true}
+use mathlib.Core.Bool.{true, false, _&&_}
 use mathlib.Core.List.{List, [], _∷_, map}
 use native.Mathlib.Numerals.{add-one}
 use native.Mathlib.Omega.{arith}
 use lib.ListN.{length, getD, take, drop, set, replicate, length-append, length-map, List·getD-eq-default}
 use lib.Seq.{drop-cons, take-suc, length-take-le, take-all, take-at}
-use lib.Dec.{ltb, eqb}
+use lib.Dec.{ltb}
 use lib.IntN.{ℤ, pos}
-use mir.Syntax.{w32}
-use mir.Val.{SFits, ofZ}
-use borrow.Author.Tests.{ltb-true, ltb-false, eq-eqb, ne-eqb}
+use borrow.Author.Tests.{ltb-true, ltb-false}
 use Rattle.numbers.specs.Lists.{padded}
 use Rattle.numbers.specs.Ranges.{eqZ}
 use Rattle.numbers.specs.Inner.Rows.{overwritten}
 use Rattle.numbers.specs.Laws.Bools.{yes-or-no}
-use Rattle.numbers.specs.Laws.Integers.{eqZ-true, eqZ-refl}
 use Rattle.numbers.specs.Laws.Lists.{map-append}
-use Rattle.numbers.specs.Laws.Machine.{same-bits}
 use Rattle.numbers.specs.Laws.Padding.{length-padded, padded-entry, padded-free}
 use Rattle.numbers.specs.Laws.Rows.{overwritten-none, overwritten-front}
 use Rattle.numbers.specs.Laws.Written.{length-kept, stored-behind}
@@ -88,13 +84,6 @@ pub inside-row : {A : Type 0} (row : List A) (at : ℕ) (a b : A) → at < lengt
 inside-row [] at a b l = absurd (omega arith)
 inside-row (x ∷ row) zero a b l = refl
 inside-row (x ∷ row) (suc at) a b l = inside-row row at a b (omega arith)
-
--- Equal bits are equal numbers.
-pub bits-test : (y z : ℤ) → SFits w32 y → SFits w32 z → eqb (ofZ w32 y) (ofZ w32 z) ≡ eqZ y z
-bits-test y z hy hz =
-    yes-or-no (eqZ y z)
-    (λ e. eq-eqb (ofZ w32 y) (ofZ w32 z) (ap (ofZ w32) (eqZ-true y z e)) ∙ sym e)
-    (λ e. ne-eqb (ofZ w32 y) (ofZ w32 z) (λ bits. false≢true (sym e ∙ ap (eqZ y) (sym (same-bits w32 y z hy hz bits)) ∙ eqZ-refl y)) ∙ sym e)
 
 -- ---- a row's numbers stored as bytes
 

@@ -1,5 +1,5 @@
 -- Cases of no operation, and the rows of a case.
-use Prim.Native.Nat.{ℕ, _+_, _-_}
+use Prim.Native.Nat.{ℕ, suc, _+_, _-_, _<_}
 use mathlib.Core.Path.{_≡_, sym, _∙_, ap, ap₂}
 use mathlib.Core.Bool.{false}
 use mathlib.Core.List.{List}
@@ -14,13 +14,17 @@ use Rattle.case_rows.specs.Rows.{sizeAt}
 use Rattle.case_rows.specs.Laws.Tests.{passed, failed}
 use Rattle.checks.specs.Cases.{operationsPass, rowsPass, casePasses}
 
+-- A number up to m that is not m is below it.
+below : {k m : ℕ} → k < suc m → (k ≡ m → ⊥) → k < m
+below l h = omega arith
+
 -- No case of another operation passes.
-pub other-operation : (numbers first second third : List ℤ) (operation : ℕ) → (operation ≡ 1 → ⊥) → (operation ≡ 2 → ⊥) → (operation ≡ 3 → ⊥) → (operation ≡ 4 → ⊥) → (operation ≡ 5 → ⊥) → (operation ≡ 6 → ⊥) → getD (operationsPass numbers first second third) operation false ≡ false
+pub other-operation : (numbers first second third : List ℤ) (operation : ℕ) → (operation ≡ 1 → ⊥) → (operation ≡ 2 → ⊥) → (operation ≡ 3 → ⊥) → (operation ≡ 4 → ⊥) → (operation ≡ 5 → ⊥) → (operation ≡ 6 → ⊥) → (operation ≡ 7 → ⊥) → getD (operationsPass numbers first second third) operation false ≡ false
 unfolding operationsPass
-other-operation numbers first second third operation a b c d e f =
-    yes-or-no (leb 7 operation)
-    (λ t. List·getD-eq-default (operationsPass numbers first second third) false (leb-true 7 operation t))
-    (λ t. let few = leb-false 7 operation t in ap (λ k. getD (operationsPass numbers first second third) k false) (let z : operation ≡ 0 = omega arith in z))
+other-operation numbers first second third operation a b c d e f g =
+    yes-or-no (leb 8 operation)
+    (λ t. List·getD-eq-default (operationsPass numbers first second third) false (leb-true 8 operation t))
+    (λ t. let none = below (below (below (below (below (below (below (leb-false 8 operation t) g) f) e) d) c) b) a in ap (λ k. getD (operationsPass numbers first second third) k false) (let z : operation ≡ 0 = omega (none, arith) in z))
 
 -- The places behind the rows of a case, as they were worked out.
 module _ (row : List ℤ) {a b c : ℕ} (first : a ≡ sizeAt row 9) (second : b ≡ sizeAt row 10) (third : c ≡ sizeAt row 11) where

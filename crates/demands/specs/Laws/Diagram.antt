@@ -7,20 +7,24 @@ use mathlib.Core.List.{List, _++_}
 use lib.ListN.{length, drop}
 use lib.IntN.{ℤ, pos, negℤ, natAbs}
 use lib.Dec.{leb, ltb, eqb}
-use lib.Signed.{ltZ}
+use lib.Signed.{leZ, ltZ}
 use Rattle.numbers.specs.Answers.{Answer, accepted}
+use Rattle.numbers.specs.Extremes.{leastOf, greatestOf}
 use Rattle.numbers.specs.Lists.{every, numbersFrom}
 use Rattle.numbers.specs.Ranges.{isVariables, isValue, isWeight, within, eqZ}
+use Rattle.numbers.specs.Laws.Extremal.{leasts, greatests}
+use Rattle.numbers.specs.Laws.Integers.{eqZ-true, eqZ-refl}
 use Rattle.diagram.specs.Accepted.{written}
 use Rattle.diagram.specs.Records.{recordSize, records}
 use Rattle.diagram.specs.Build.{ofTable, nodeRoom, build, buildAnswer, buildBuffer, summaryOf}
 use Rattle.diagram.specs.Theorems.{build-answers, build-leaves}
 use Rattle.diagram.specs.Laws.Builds.{summary-length}
-use Rattle.diagram.specs.Walk.{variableAt, lowAt, highAt, weightAt, childFits, recordFits, recordCount, listFits, walk, walkValue}
+use Rattle.diagram.specs.Laws.NodeRanges.{before-value, some-value, extreme-value}
+use Rattle.diagram.specs.Walk.{variableAt, lowAt, highAt, weightAt, leastAt, greatestAt, childFits, edgesFit, pathWeight, nodeValues, rangeFits, recordFits, recordCount, listFits, ofList, walk, walkValue}
 use Rattle.demands.specs.Checks.{Check, AllHold, Decided}
-use Rattle.demands.specs.Admitted.{tableChecks, buildChecks, ListedChild, ListedRecord, RecordList, walkChecks}
+use Rattle.demands.specs.Admitted.{tableChecks, buildChecks, ListedChild, LeastOver, GreatestOver, ListedRecord, RecordList, walkChecks}
 use Rattle.demands.specs.Laws.Checks.{decided-accepted, decided-unless, decided-map, answers-value, unless-only, accepted-only}
-use Rattle.demands.specs.Laws.Tests.{le-test, lt-test, eq-test, less-test, same-test, and-test, or-test, between-test, variables-test, value-test, every-test, every-from-one}
+use Rattle.demands.specs.Laws.Tests.{le-test, lt-test, eq-test, less-test, same-test, at-most-test, and-test, or-test, between-test, variables-test, value-test, every-test, every-from-one}
 
 -- The checks on a table, and what follows them.
 pub decided-table : {A : Type 0} (n : ℕ) (table : List ℤ) {rest : Answer A} {checks : List Check} → Decided rest checks → Decided (ofTable n table rest) (tableChecks n table ++ checks)
@@ -36,7 +40,7 @@ pub decided-build : (n : ℕ) (table : List ℤ) (room : ℕ) → Decided (build
 unfolding buildAnswer build buildChecks nodeRoom recordSize
 decided-build n table room =
     decided-map (λ rs. summaryOf n table) (build n table room)
-    (decided-table n table (decided-unless (leb (4 * (2 ^ n - 1)) room) (le-test (4 * (2 ^ n - 1)) room) (decided-accepted (records n table))))
+    (decided-table n table (decided-unless (leb (6 * (2 ^ n - 1)) room) (le-test (6 * (2 ^ n - 1)) room) (decided-accepted (records n table))))
 
 -- ---- a record list
 
@@ -52,36 +56,73 @@ child-test list k child =
       (λ r. i .1 (r .earlier, r .lower)),
     )
 
+-- Its least and its greatest.
+least-test : (n : ℕ) (list : List ℤ) (k : ℕ) → (eqZ (leastAt list k) (leastOf (nodeValues n list k)) ≡ true) ↔ LeastOver n (pathWeight list n k) (leastAt list k)
+least-test n list k = (
+  (λ h.
+      let e = eqZ-true (leastAt list k) (leastOf (nodeValues n list k)) h in
+      let m = some-value leasts n list k in
+      record {
+        under = λ x l. at-most-test (leastAt list k) (pathWeight list n k x) .0 (ap (λ z. leZ z (pathWeight list n k x)) e ∙ before-value leasts n list k x l);
+        met = (m .0, (m .1 .0, e ∙ m .1 .1));
+      }),
+  (λ r.
+      let m = r .met in
+      ap (eqZ (leastAt list k))
+      (extreme-value leasts n list k (leastAt list k) (m .0) (m .1 .0) (m .1 .1) (λ x l. at-most-test (leastAt list k) (pathWeight list n k x) .1 (r .under x l)))
+      ∙ eqZ-refl (leastAt list k)),
+)
+
+greatest-test : (n : ℕ) (list : List ℤ) (k : ℕ) → (eqZ (greatestAt list k) (greatestOf (nodeValues n list k)) ≡ true) ↔ GreatestOver n (pathWeight list n k) (greatestAt list k)
+greatest-test n list k = (
+  (λ h.
+      let e = eqZ-true (greatestAt list k) (greatestOf (nodeValues n list k)) h in
+      let m = some-value greatests n list k in
+      record {
+        over = λ x l. at-most-test (pathWeight list n k x) (greatestAt list k) .0 (ap (leZ (pathWeight list n k x)) e ∙ before-value greatests n list k x l);
+        met = (m .0, (m .1 .0, e ∙ m .1 .1));
+      }),
+  (λ r.
+      let m = r .met in
+      ap (eqZ (greatestAt list k))
+      (extreme-value greatests n list k (greatestAt list k) (m .0) (m .1 .0) (m .1 .1) (λ x l. at-most-test (pathWeight list n k x) (greatestAt list k) .1 (r .over x l)))
+      ∙ eqZ-refl (greatestAt list k)),
+)
+
 -- A record.
 record-test : (n : ℕ) (list : List ℤ) (k : ℕ) → (recordFits n list k ≡ true) ↔ ListedRecord n list k
-unfolding recordFits isWeight
+unfolding recordFits edgesFit rangeFits isWeight
 record-test n list k =
     let variable = within (pos 0) (pos (n - 1)) (variableAt list k) in
     let low = childFits list k (lowAt list k) in
     let high = childFits list k (highAt list k) in
     let weight = isWeight (weightAt list k) in
+    let least = eqZ (leastAt list k) (leastOf (nodeValues n list k)) in
+    let greatest = eqZ (greatestAt list k) (greatestOf (nodeValues n list k)) in
     let i =
-    and-test (variable && low && high) weight
+    and-test (variable && low && high && weight) (least && greatest)
+    (and-test (variable && low && high) weight
     (and-test (variable && low) high
     (and-test variable low (between-test (pos 0) (pos (n - 1)) (variableAt list k)) (child-test list k (lowAt list k)))
     (child-test list k (highAt list k)))
-    (between-test (negℤ (pos 16777215)) (pos 16777215) (weightAt list k))
+    (between-test (negℤ (pos 16777215)) (pos 16777215) (weightAt list k)))
+    (and-test least greatest (least-test n list k) (greatest-test n list k))
     in (
-      (λ h. let r = i .0 h in record { variable = r .0 .0 .0; low = r .0 .0 .1; high = r .0 .1; weight = r .1 }),
-      (λ r. i .1 (((r .variable, r .low), r .high), r .weight)),
+      (λ h. let r = i .0 h in record { variable = r .0 .0 .0 .0; low = r .0 .0 .0 .1; high = r .0 .0 .1; weight = r .0 .1; least = r .1 .0; greatest = r .1 .1 }),
+      (λ r. i .1 ((((r .variable, r .low), r .high), r .weight), (r .least, r .greatest))),
     )
 
 -- All of the list.
 list-test : (n : ℕ) (list : List ℤ) → (listFits n list ≡ true) ↔ RecordList n list
 unfolding listFits nodeRoom recordSize recordCount
 list-test n list =
-    let whole = eqb (length list % 4) 0 in
-    let most = leb (length list) (4 * (2 ^ n - 1)) in
-    let each = every (recordFits n list) (numbersFrom 1 (length list / 4)) in
+    let whole = eqb (length list % 6) 0 in
+    let most = leb (length list) (6 * (2 ^ n - 1)) in
+    let each = every (recordFits n list) (numbersFrom 1 (length list / 6)) in
     let i =
     and-test (whole && most) each
-    (and-test whole most (eq-test (length list % 4) 0) (le-test (length list) (4 * (2 ^ n - 1))))
-    (every-from-one (recordFits n list) (length list / 4) (record-test n list))
+    (and-test whole most (eq-test (length list % 6) 0) (le-test (length list) (6 * (2 ^ n - 1))))
+    (every-from-one (recordFits n list) (length list / 6) (record-test n list))
     in (
       (λ h. let r = i .0 h in record { whole = r .0 .0; most = r .0 .1; records = r .1 }),
       (λ r. i .1 ((r .whole, r .most), r .records)),
@@ -89,7 +130,7 @@ list-test n list =
 
 -- Walk: n, the offset, the list, X.
 pub decided-walk : (n : ℕ) (offset : ℤ) (list : List ℤ) (x : ℕ) → Decided (walk n offset list x) (walkChecks n offset list x)
-unfolding walk walkChecks
+unfolding walk ofList walkChecks
 decided-walk n offset list x =
     decided-unless (isVariables n) (variables-test n)
     (decided-unless (isValue offset) (value-test offset)
@@ -112,7 +153,7 @@ build-buffer n table buffer h =
 
 -- Walk: the value on the path.
 pub walk-value : (n : ℕ) (offset : ℤ) (list : List ℤ) (x : ℕ) → AllHold (walkChecks n offset list x) → walk n offset list x ≡ accepted (walkValue n offset list x)
-unfolding walk
+unfolding walk ofList
 walk-value n offset list x =
     answers-value (decided-walk n offset list x) (walkValue n offset list x)
     (unless-only (isVariables n) 1 (unless-only (isValue offset) 5 (unless-only (listFits n list) 6 (unless-only (ltb x (2 ^ n)) 7 (accepted-only (walkValue n offset list x))))))

@@ -37,7 +37,7 @@ passed false = ((λ h. absurd (false≢true h)), (λ t. absurd t))
 pub less-test : (a b : ℤ) → (ltZ a b ≡ true) ↔ (a <ℤ b)
 less-test a b = ((λ h. record { lt = passed (ltZ a b) .0 h }), (λ h. passed (ltZ a b) .1 (h .lt)))
 
-at-most-test : (a b : ℤ) → (leZ a b ≡ true) ↔ (a ≤ℤ b)
+pub at-most-test : (a b : ℤ) → (leZ a b ≡ true) ↔ (a ≤ℤ b)
 at-most-test a b = ((λ h. record { le = passed (leZ a b) .0 h }), (λ h. passed (leZ a b) .1 (h .le)))
 
 -- ---- two tests

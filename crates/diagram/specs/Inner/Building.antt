@@ -5,14 +5,16 @@ use mathlib.Core.Bool.{true, cond}
 use mathlib.Core.List.{List, map, flatMap}
 use lib.ListN.{length, getD, set}
 use lib.IntN.{ℤ, _-ℤ_}
+use Rattle.numbers.specs.Extremes.{leastOf, greatestOf}
 use Rattle.numbers.specs.Inner.Rows.{overwritten}
-use Rattle.blocks.specs.Blocks.{first, lowerHalf, upperHalf}
+use Rattle.blocks.specs.Blocks.{first, lowerHalf, upperHalf, differences}
 use Rattle.blocks.specs.Inner.Layout.{classAt, allNumbers, allFirsts, allCounts, cutPlace}
 use Rattle.blocks.specs.Classes.{classes, classCount}
 use Rattle.diagram.specs.Accepted.{Accepted}
 use Rattle.diagram.specs.Build.{nodeRoom}
 use Rattle.diagram.specs.Records.{branches, node, recordOf, recordsAt, recordsBelow, records, recordNumbers, recordSize}
 use Rattle.diagram.specs.declared.Fork.{Fork}
+use Rattle.diagram.specs.declared.Range.{Range}
 
 -- The nodes of a block's halves, its weight, and whether it branches.
 unfoldable pub forkOf : ℕ → List ℤ → ℕ → List ℤ → Fork
@@ -22,6 +24,10 @@ forkOf n table i values = record {
   weight = first (upperHalf i values) -ℤ first (lowerHalf i values);
   branching = branches i values;
 }
+
+-- The least and the greatest of a block's differences.
+unfoldable pub rangeOf : List ℤ → Range
+rangeOf values = record { least = leastOf (differences values); greatest = greatestOf (differences values) }
 
 -- A row of all cuts that holds the node of each class of cut h.
 pub record NodesKnown (n : ℕ) (table : List ℤ) (h : ℕ) (row : List ℕ) : Type 0 where

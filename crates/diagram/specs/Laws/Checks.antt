@@ -7,20 +7,18 @@ use native.Mathlib.Numerals.{add-one}
 use native.Mathlib.Omega.{arith}
 use lib.ListN.{length, getD, drop, drop-of-length-le}
 use lib.Seq.{drop-cons}
-use lib.Dec.{T, leb, ltb, eqb}
+use lib.Dec.{T, leb, ltb}
 use lib.IntN.{ℤ, pos, negsuc, natAbs}
 use lib.Signed.{ltZ, nonNeg}
 use mir.Syntax.{w32, w64}
-use mir.Val.{Fits, SFits, ofZ}
-use mir.Facts.{fits-natAbs, sfits-lit}
-use borrow.Author.Tests.{le-leb, lt-leb, ltb-true, ltb-false, leb-true, eq-eqb, ne-eqb}
+use mir.Val.{Fits, SFits}
+use mir.Facts.{fits-natAbs}
+use borrow.Author.Tests.{le-leb, lt-leb, ltb-true, ltb-false, leb-true, ne-eqb}
 use Rattle.numbers.specs.Lists.{numbersFrom, every}
 use Rattle.numbers.specs.Ranges.{mostVariables, isVariables, within, eqZ, isWeight}
 use Rattle.numbers.specs.Laws.Bools.{yes-or-no, both, and-both}
-use Rattle.numbers.specs.Laws.Integers.{eqZ-true, eqZ-refl}
-use Rattle.numbers.specs.Laws.Machine.{same-bits}
 use Rattle.diagram.specs.Records.{recordSize}
-use Rattle.diagram.specs.Walk.{variableAt, lowAt, highAt, weightAt, childFits, recordFits, recordCount}
+use Rattle.diagram.specs.Walk.{variableAt, lowAt, highAt, weightAt, childFits, edgesFit, rangeFits, recordFits, recordCount}
 use Rattle.diagram.specs.Inner.Edges.{Recorded}
 
 -- ---- ranges
@@ -67,13 +65,6 @@ unequal (pos a) (negsuc b) h = refl
 unequal (negsuc a) (pos b) h = refl
 unequal (negsuc a) (negsuc b) h = ne-eqb a b (λ e. h (ap negsuc e))
 
--- Whether the bits of a number are those of 0.
-pub zero-bits : (z : ℤ) → SFits w32 z → eqb (ofZ w32 z) 0 ≡ eqZ z (pos 0)
-zero-bits z h =
-    yes-or-no (eqZ z (pos 0))
-    (λ e. eq-eqb (ofZ w32 z) 0 (ap (ofZ w32) (eqZ-true z (pos 0) e)) ∙ sym e)
-    (λ e. ne-eqb (ofZ w32 z) 0 (λ b. true≢false (sym (eqZ-refl (pos 0)) ∙ ap (λ y. eqZ y (pos 0)) (sym (same-bits w32 z (pos 0) h (sfits-lit tt) b)) ∙ e)) ∙ sym e)
-
 -- ---- a child
 
 module _ (list : List ℤ) (k : ℕ) where
@@ -89,10 +80,13 @@ module _ (list : List ℤ) (k : ℕ) where
   unfolding childFits
   child-record child e h = rw (e, unequal child (pos 0) h)
 
+  pub child-within : (child : ℤ) → childFits list k child ≡ true → within (pos 0) (pos (k - 1)) child ≡ true
+  unfolding childFits
+  child-within child h = both (within (pos 0) (pos (k - 1)) child) _ h .0
+
   -- A child that fits is a node before k.
   pub child-node : (child : ℤ) → childFits list k child ≡ true → (child ≡ pos (natAbs child)) × (natAbs child ≤ k - 1)
-  unfolding childFits
-  child-node child h = counted (k - 1) child (both (within (pos 0) (pos (k - 1)) child) _ h .0)
+  child-node child h = counted (k - 1) child (child-within child h)
 
   -- One that is not node 0 is a record.
   pub child-recorded : (child : ℤ) → Recorded list k → within (pos 0) (pos (k - 1)) child ≡ true → (child ≡ pos 0 → ⊥) → Recorded list (natAbs child)
@@ -110,21 +104,29 @@ unfolding recordSize recordCount
 number-inside list k c r h = let a = r .from-one in let b = r .among in omega arith
 
 module _ (n : ℕ) (list : List ℤ) (k : ℕ) where
-  pub variable-unfit : within (pos 0) (pos (n - 1)) (variableAt list k) ≡ false → recordFits n list k ≡ false
-  unfolding recordFits
+  pub variable-unfit : within (pos 0) (pos (n - 1)) (variableAt list k) ≡ false → edgesFit n list k ≡ false
+  unfolding edgesFit
   variable-unfit a = rw a
 
-  pub low-unfit : within (pos 0) (pos (n - 1)) (variableAt list k) ≡ true → childFits list k (lowAt list k) ≡ false → recordFits n list k ≡ false
-  unfolding recordFits
+  pub low-unfit : within (pos 0) (pos (n - 1)) (variableAt list k) ≡ true → childFits list k (lowAt list k) ≡ false → edgesFit n list k ≡ false
+  unfolding edgesFit
   low-unfit a b = rw (a, b)
 
-  pub high-unfit : within (pos 0) (pos (n - 1)) (variableAt list k) ≡ true → childFits list k (lowAt list k) ≡ true → childFits list k (highAt list k) ≡ false → recordFits n list k ≡ false
-  unfolding recordFits
+  pub high-unfit : within (pos 0) (pos (n - 1)) (variableAt list k) ≡ true → childFits list k (lowAt list k) ≡ true → childFits list k (highAt list k) ≡ false → edgesFit n list k ≡ false
+  unfolding edgesFit
   high-unfit a b c = rw (a, b, c)
 
-  pub weight-left : within (pos 0) (pos (n - 1)) (variableAt list k) ≡ true → childFits list k (lowAt list k) ≡ true → childFits list k (highAt list k) ≡ true → recordFits n list k ≡ isWeight (weightAt list k)
-  unfolding recordFits
+  pub weight-left : within (pos 0) (pos (n - 1)) (variableAt list k) ≡ true → childFits list k (lowAt list k) ≡ true → childFits list k (highAt list k) ≡ true → edgesFit n list k ≡ isWeight (weightAt list k)
+  unfolding edgesFit
   weight-left a b c = rw (a, b, c)
+
+  pub edges-unfit : edgesFit n list k ≡ false → recordFits n list k ≡ false
+  unfolding recordFits
+  edges-unfit e = rw e
+
+  pub range-left : edgesFit n list k ≡ true → recordFits n list k ≡ rangeFits n list k
+  unfolding recordFits
+  range-left e = rw e
 
 -- ---- all records, from one on
 
@@ -159,8 +161,8 @@ module _ {A : Type 0} (test : A → Bool) (l : List A) (x : ℕ) where
 
 -- ---- the parts of a record's check
 
--- A record that fits: its variable, its children and its weight.
-pub record RecordParts (n : ℕ) (list : List ℤ) (k : ℕ) : Type 0 where
+-- Edges that fit: the record's variable, its children and its weight.
+pub record EdgeParts (n : ℕ) (list : List ℤ) (k : ℕ) : Type 0 where
   pub variable : within (pos 0) (pos (n - 1)) (variableAt list k) ≡ true
   pub low : childFits list k (lowAt list k) ≡ true
   pub high : childFits list k (highAt list k) ≡ true
@@ -176,17 +178,26 @@ module _ (n : ℕ) (list : List ℤ) (k : ℕ) where
   abbrev high-fits : Bool
   high-fits = childFits list k (highAt list k)
 
-  pub fits-by-parts : RecordParts n list k → recordFits n list k ≡ true
-  unfolding recordFits
+  pub fits-by-parts : EdgeParts n list k → edgesFit n list k ≡ true
+  unfolding edgesFit
   fits-by-parts p =
       and-both (variable-fits && low-fits && high-fits) (isWeight (weightAt list k))
       (and-both (variable-fits && low-fits) high-fits
       (and-both variable-fits low-fits (p .variable) (p .low)) (p .high)) (p .weight)
 
-  pub parts-of-record : recordFits n list k ≡ true → RecordParts n list k
-  unfolding recordFits
-  parts-of-record fits =
+  pub parts-of-edges : edgesFit n list k ≡ true → EdgeParts n list k
+  unfolding edgesFit
+  parts-of-edges fits =
       let all = both (variable-fits && low-fits && high-fits) (isWeight (weightAt list k)) fits in
       let children = both (variable-fits && low-fits) high-fits (all .0) in
       let front = both variable-fits low-fits (children .0) in
       record { variable = front .0; low = front .1; high = children .1; weight = all .1 }
+
+  -- A record that fits: its edges and its range.
+  pub edges-of-record : recordFits n list k ≡ true → EdgeParts n list k
+  unfolding recordFits
+  edges-of-record fits = parts-of-edges (both (edgesFit n list k) (rangeFits n list k) fits .0)
+
+  pub range-of-record : recordFits n list k ≡ true → rangeFits n list k ≡ true
+  unfolding recordFits
+  range-of-record fits = both (edgesFit n list k) (rangeFits n list k) fits .1

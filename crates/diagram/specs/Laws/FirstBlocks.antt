@@ -23,7 +23,7 @@ module _ {n h c : ℕ} {table : List ℤ} {firstRow : List ℕ} (k : ClassOfCut 
   abbrev half : ℕ
   half = n - suc h
 
-  whole : n - h ≡ suc half
+  pub whole : n - h ≡ suc half
   whole = let l = cut in omega arith
 
   within : h ≤ n

@@ -23,8 +23,9 @@ use Rattle.blocks.specs.Inner.Layout.{cutPlace, classAt}
 use Rattle.blocks.specs.Laws.Blocks.{block-at}
 use Rattle.blocks.specs.Laws.Classes.{class-below, class-stands, class-count-le}
 use Rattle.diagram.specs.Records.{branches, node, recordOf}
-use Rattle.diagram.specs.Inner.Building.{forkOf, ClassOfCut, Forking}
+use Rattle.diagram.specs.Inner.Building.{forkOf, rangeOf, ClassOfCut, Forking}
 use Rattle.diagram.specs.declared.Fork.{Fork}
+use Rattle.diagram.specs.declared.Range.{Range}
 use Rattle.diagram.specs.Laws.Alike.{BlockLike, lower-of-block, upper-of-block, whole-length, like-lower, like-upper}
 use Rattle.diagram.specs.Laws.Checks.{variables-range}
 use Rattle.diagram.specs.Laws.FirstBlocks.{cut-small, firstOf, first-below, first-stands, first-alike}
@@ -56,12 +57,13 @@ weight-fits table i j values h =
 
 -- ---- the fork of a class
 
--- A fork gives the block's record.
-pub fork-record : (n : ℕ) (table : List ℤ) (i : ℕ) (values : List ℤ) (f : Fork) → f ≡ forkOf n table i values → SFits w32 (first (upperHalf i values) -ℤ first (lowerHalf i values)) → record { variable = i; low = f .low; high = f .high; weight = toZ w32 (ofZ w32 (f .weight)) } ≡ recordOf n table i values
-unfolding forkOf recordOf
-fork-record n table i values f e h =
-    ap (λ g. record { variable = i; low = g .low; high = g .high; weight = toZ w32 (ofZ w32 (g .weight)) }) e
-    ∙ ap (λ w. record { variable = i; low = node n table i (lowerHalf i values); high = node n table i (upperHalf i values); weight = w }) (toZ-ofZ h)
+-- A fork and a range give the block's record.
+pub fork-record : (n : ℕ) (table : List ℤ) (i : ℕ) (values : List ℤ) (f : Fork) (r : Range) → f ≡ forkOf n table i values → r ≡ rangeOf values → SFits w32 (f .weight) → SFits w32 (r .least) → SFits w32 (r .greatest)
+    → record { variable = i; low = f .low; high = f .high; weight = toZ w32 (ofZ w32 (f .weight)); least = toZ w32 (ofZ w32 (r .least)); greatest = toZ w32 (ofZ w32 (r .greatest)) } ≡ recordOf n table i values
+unfolding forkOf rangeOf recordOf
+fork-record n table i values f r e d w l g =
+    rw (toZ-ofZ w, toZ-ofZ l, toZ-ofZ g)
+    (ap₂ (λ a b. record { variable = i; low = a .low; high = a .high; weight = a .weight; least = b .least; greatest = b .greatest }) e d)
 
 module _ {n h c : ℕ} {table : List ℤ} {classRow firstRow row : List ℕ} (f : Forking n h c table classRow firstRow row) where
   open Forking f using (class, numbered, below)

@@ -1,4 +1,4 @@
--- Where records stand: how many there are, which one has a number, and what its four numbers are.
+-- Where records stand: how many there are, which one has a number, and what its numbers are.
 use Prim.Native.Nat.{ℕ, zero, suc, _+_, _-_, _*_, _%_, _^_, _≤_, _<_}
 use mathlib.Core.Path.{_≡_, refl, sym, _∙_, ap, ap₂}
 use mathlib.Core.List.{List, [], _∷_, _++_, map, flatMap, append-nil}
@@ -9,13 +9,15 @@ use lib.ListN.{length, getD, take, drop, length-map, length-append, length-take,
 use lib.Seq.{getD-append-add}
 use lib.Pow.{pow-pos}
 use lib.IntN.{ℤ, pos, _-ℤ_}
+use Rattle.numbers.specs.Extremes.{leastOf, greatestOf}
 use Rattle.numbers.specs.Lists.{numbersFrom}
 use Rattle.numbers.specs.Laws.Integers.{sub-sub-same}
 use Rattle.numbers.specs.Laws.Lists.{range-suc, getD-map, map-take, map-drop}
 use Rattle.numbers.specs.Laws.Selections.{flatMap-append, length-flatMap, getD-flatMap, range-add}
 use Rattle.blocks.specs.Blocks.{first, lowerHalf, upperHalf, differences}
+use Rattle.blocks.specs.Laws.Differences.{differences-again}
 use Rattle.diagram.specs.Records.{kinds, recordsBelow, node, Record, recordOf, recordsAt, records, recordNumbers, recordSize}
-use Rattle.diagram.specs.Walk.{numberAt, variableAt, lowAt, highAt, weightAt, recordCount}
+use Rattle.diagram.specs.Walk.{numberAt, variableAt, lowAt, highAt, weightAt, leastAt, greatestAt, recordCount}
 use Rattle.diagram.specs.Accepted.{written}
 use Rattle.diagram.specs.Laws.Alike.{twice-blocks}
 use Rattle.diagram.specs.Laws.Nodes.{same-node, kinds-le}
@@ -38,7 +40,7 @@ weight-of-differences i values h =
     less : ℤ → ℤ
     less v = v -ℤ first values
 
--- A record has four numbers.
+-- How many numbers records have.
 pub numbers-length : (rs : List Record) → length (flatMap recordNumbers rs) ≡ recordSize * length rs
 unfolding recordNumbers recordSize
 numbers-length rs = length-flatMap recordNumbers recordSize (λ r. refl) rs
@@ -150,7 +152,7 @@ module _ (n : ℕ) (table : List ℤ) where
       ∙ ap (λ r. getD (recordNumbers r) c (pos 0)) (record-at i k filler h l)
     where
       filler : Record
-      filler = record { variable = 0; low = 0; high = 0; weight = pos 0 }
+      filler = record { variable = 0; low = 0; high = 0; weight = pos 0; least = pos 0; greatest = pos 0 }
 
   -- Its variable.
   pub kind-variable : (i k : ℕ) → i < n → k < length (kinds n table i) → variableAt (written n table) (suc (recordsBelow n table i + k)) ≡ pos i
@@ -163,13 +165,17 @@ module _ (n : ℕ) (table : List ℤ) where
     pub low : lowAt (written n table) m ≡ pos (node n table i (lowerHalf i values))
     pub high : highAt (written n table) m ≡ pos (node n table i (upperHalf i values))
     pub weight : weightAt (written n table) m ≡ first (upperHalf i values) -ℤ first (lowerHalf i values)
+    pub least : leastAt (written n table) m ≡ leastOf (differences values)
+    pub greatest : greatestAt (written n table) m ≡ greatestOf (differences values)
 
   -- The record of a kind stands for every block of that kind.
   pub kind-stands : (i k : ℕ) (values : List ℤ) → i < n → k < length (kinds n table i) → length values ≡ 2 ^ suc i → getD (kinds n table i) k [] ≡ differences values → StandsFor (suc (recordsBelow n table i + k)) i values
-  unfolding lowAt highAt weightAt recordOf recordNumbers recordSize
+  unfolding lowAt highAt weightAt leastAt greatestAt recordOf recordNumbers recordSize
   kind-stands i k values h l s e = record {
     variable = kind-variable i k h l;
     low = number-of-kind i k 1 h l (omega arith) ∙ ap (λ d. pos (node n table i (lowerHalf i d))) e ∙ ap pos (same-node n table i (lowerHalf i (differences values)) (lowerHalf i values) (lower-differences i values));
     high = number-of-kind i k 2 h l (omega arith) ∙ ap (λ d. pos (node n table i (upperHalf i d))) e ∙ ap pos (same-node n table i (upperHalf i (differences values)) (upperHalf i values) (upper-differences i values));
     weight = number-of-kind i k 3 h l (omega arith) ∙ ap (λ d. first (upperHalf i d) -ℤ first (lowerHalf i d)) e ∙ weight-of-differences i values (omega (arith, two-pow-succ i, pow-pos i));
+    least = number-of-kind i k 4 h l (omega arith) ∙ ap (λ d. leastOf (differences d)) e ∙ ap leastOf (differences-again values);
+    greatest = number-of-kind i k 5 h l (omega arith) ∙ ap (λ d. greatestOf (differences d)) e ∙ ap greatestOf (differences-again values);
   }

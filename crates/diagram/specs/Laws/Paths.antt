@@ -1,17 +1,14 @@
 -- Paths: the weights on the path from a block's node are the block's differences.
-use Prim.Native.Nat.{ℕ, zero, suc, _+_, _*_, _/_, _%_, _^_, _≤_, _<_}
-use mathlib.Core.Path.{_≡_, refl, sym, _∙_, ap, ap₂}
+use Prim.Native.Nat.{ℕ, zero, suc, _+_, _%_, _^_, _≤_}
+use mathlib.Core.Path.{_≡_, sym, _∙_, ap, ap₂}
 use mathlib.Core.Bool.{true, false}
 use mathlib.Core.List.{List}
-use native.Mathlib.Nat.{mod-lt, one-mul}
-use native.Mathlib.Numerals.{one-add}
+use native.Mathlib.Nat.{mod-lt}
 use native.Mathlib.Omega.{arith}
-use native.Mathlib.Decide.{decLt}
 use lib.ListN.{length, getD}
 use lib.Seq.{getD-take, getD-drop}
-use lib.Pow.{pow-pos, mod-pow-add}
+use lib.Pow.{pow-pos}
 use lib.IntN.{ℤ, pos, negℤ, natAbs, _+ℤ_, _-ℤ_, +ℤ-assoc, +ℤ-comm}
-use borrow.Author.Tests.{eqb-true, eqb-false, ne-eqb}
 use Rattle.numbers.specs.Ranges.{eqZ}
 use Rattle.numbers.specs.Laws.Bools.{yes-or-no}
 use Rattle.numbers.specs.Laws.Integers.{sub-self, sub-add, eqZ-refl}
@@ -19,58 +16,13 @@ use Rattle.blocks.specs.Blocks.{first, lowerHalf, upperHalf, differences}
 use Rattle.blocks.specs.Classes.{numberIn}
 use Rattle.blocks.specs.Laws.Known.{number-at}
 use Rattle.diagram.specs.Records.{branches, kinds, recordsBelow, node}
-use Rattle.diagram.specs.Walk.{variableAt, lowAt, highAt, weightAt, bitSet, pathWeight}
+use Rattle.diagram.specs.Walk.{variableAt, bitSet, pathWeight}
 use Rattle.diagram.specs.Accepted.{written}
 use Rattle.diagram.specs.Laws.Alike.{BlockLike, like-length, like-lower, like-upper}
 use Rattle.diagram.specs.Laws.Nodes.{node-branching, node-passing, node-below, kind-known}
-use Rattle.diagram.specs.Laws.Numbering.{numbered, kind-variable, below-more, StandsFor, kind-stands}
+use Rattle.diagram.specs.Laws.Numbering.{numbered, kind-variable, StandsFor, kind-stands}
+use Rattle.diagram.specs.Laws.Steps.{path-high, path-low, bit-one, bit-zero, Below, path-down}
 use Rattle.diagram.specs.Laws.Branching.{unbranched-halves}
-
--- ---- one step of a path
-
--- The terminal adds nothing.
-pub path-terminal : (list : List ℤ) (i x : ℕ) → pathWeight list i 0 x ≡ pos 0
-unfolding pathWeight
-path-terminal list zero x = refl
-path-terminal list (suc i) x = refl
-
--- A record of a lower variable.
-path-skip : (list : List ℤ) (i k x : ℕ) → eqZ (variableAt list (suc k)) (pos i) ≡ false → pathWeight list (suc i) (suc k) x ≡ pathWeight list i (suc k) x
-unfolding pathWeight
-path-skip list i k x e = rw (e, pathWeight)
-
--- Different variables are told apart.
-lower-variable : (j i : ℕ) → j < i → eqZ (pos j) (pos i) ≡ false
-unfolding eqZ
-lower-variable j i h = ne-eqb j i (λ e. omega arith)
-
--- A 1-edge and a 0-edge.
-path-high : (list : List ℤ) (i k x : ℕ) → eqZ (variableAt list (suc k)) (pos i) ≡ true → bitSet x i ≡ true → pathWeight list (suc i) (suc k) x ≡ weightAt list (suc k) +ℤ pathWeight list i (natAbs (highAt list (suc k))) x
-unfolding pathWeight
-path-high list i k x e b = rw (e, b, pathWeight)
-
-path-low : (list : List ℤ) (i k x : ℕ) → eqZ (variableAt list (suc k)) (pos i) ≡ true → bitSet x i ≡ false → pathWeight list (suc i) (suc k) x ≡ pathWeight list i (natAbs (lowAt list (suc k))) x
-unfolding pathWeight
-path-low list i k x e b = rw (e, b, pathWeight)
-
--- ---- one bit of X
-
--- The place in a block, by the bit that picks its half.
-bit-one : (x i : ℕ) → bitSet x i ≡ true → x % 2 ^ suc i ≡ 2 ^ i + x % 2 ^ i
-unfolding bitSet
-bit-one x i e =
-    ap (λ k. x % 2 ^ k) (sym (one-add i))
-    ∙ mod-pow-add x 1 i
-    ∙ ap (λ b. b * 2 ^ i + x % 2 ^ i) (eqb-true (x / 2 ^ i % 2) 1 e)
-    ∙ ap (λ p. p + x % 2 ^ i) (one-mul (2 ^ i))
-
-bit-zero : (x i : ℕ) → bitSet x i ≡ false → x % 2 ^ suc i ≡ x % 2 ^ i
-unfolding bitSet
-bit-zero x i e =
-    ap (λ k. x % 2 ^ k) (sym (one-add i))
-    ∙ mod-pow-add x 1 i
-    ∙ ap (λ b. b * 2 ^ i + x % 2 ^ i) (let f = eqb-false (x / 2 ^ i % 2) 1 e in let z : x / 2 ^ i % 2 ≡ 0 = omega arith in z)
-    ∙ (let z : 0 * 2 ^ i + x % 2 ^ i ≡ x % 2 ^ i = omega arith in z)
 
 -- The top bit of a block's place says in which half the value is.
 value-high : (values : List ℤ) (i x : ℕ) → bitSet x i ≡ true → getD values (x % 2 ^ suc i) (pos 0) ≡ getD (upperHalf i values) (x % 2 ^ i) (pos 0)
@@ -96,25 +48,13 @@ sub-chain a b c =
 -- ---- the path from a record
 
 module _ (n : ℕ) (table : List ℤ) where
-  -- A record of a variable below i has nothing to read at i.
-  path-down : (i m x : ℕ) → i ≤ n → m ≤ recordsBelow n table i → pathWeight (written n table) (suc i) m x ≡ pathWeight (written n table) i m x
-  path-down i zero x h l = path-terminal (written n table) (suc i) x ∙ sym (path-terminal (written n table) i x)
-  path-down i (suc m) x h l =
-      let r = numbered n table i (suc m) (omega arith) l in
-      path-skip (written n table) i m x
-      (ap (λ k. eqZ (variableAt (written n table) k) (pos i)) (r .number)
-      ∙ ap (λ v. eqZ v (pos i)) (kind-variable n table (r .height) (r .kind) (let p = r .lower in omega arith) (r .known))
-      ∙ lower-variable (r .height) i (r .lower))
-
-  -- So it has the same path from higher up.
-  pub path-from-above : (i above m x : ℕ) → i ≤ above → above ≤ n → m ≤ recordsBelow n table i → pathWeight (written n table) above m x ≡ pathWeight (written n table) i m x
-  path-from-above i zero m x h t l = ap (λ k. pathWeight (written n table) k m x) (let e : 0 ≡ i = omega arith in e)
-  path-from-above i (suc above) m x h t l = here-or-above (decLt i (suc above)) (λ p. path-from-above i above m x p (omega arith) l)
-    where
-      here-or-above : Dec (i < suc above) → (i ≤ above → pathWeight (written n table) above m x ≡ pathWeight (written n table) i m x) → pathWeight (written n table) (suc above) m x ≡ pathWeight (written n table) i m x
-      here-or-above (yes p) rest =
-          path-down above m x (omega arith) (let b = below-more n table i above (omega arith) in omega arith) ∙ rest (omega arith)
-      here-or-above (no p) rest = ap (λ k. pathWeight (written n table) k m x) (let e : suc above ≡ i = omega arith in e)
+  -- A record numbered below a height has a variable below it.
+  pub numbered-below : (i m : ℕ) → i ≤ n → m ≤ recordsBelow n table i → Below (written n table) i m
+  numbered-below i m h l = record {
+    lower = λ one.
+        let r = numbered n table i m one l in
+        (r .height, (r .lower, ap (variableAt (written n table)) (r .number) ∙ kind-variable n table (r .height) (r .kind) (let p = r .lower in omega arith) (r .known)));
+  }
 
   -- A record reads its own variable: the weight and the high child, or the low child.
   module _ (i m : ℕ) (values : List ℤ) (s : StandsFor n table (suc m) i values) where
@@ -168,7 +108,7 @@ module _ (n : ℕ) (table : List ℤ) (size : length table ≡ 2 ^ n) where
     passing-path : branches i values ≡ false → pathWeight (written n table) (suc i) (node n table (suc i) values) x ≡ getD values (x % 2 ^ suc i) (pos 0) -ℤ first values
     passing-path e =
         ap (λ m. pathWeight (written n table) (suc i) m x) (node-passing n table i values e)
-        ∙ path-down n table i (node n table i (lowerHalf i values)) x (omega arith) (node-below n table size i (lowerHalf i values) (omega arith) (like-lower n table size i values h b))
+        ∙ path-down (written n table) i (node n table i (lowerHalf i values)) x (numbered-below n table i (node n table i (lowerHalf i values)) (omega arith) (node-below n table size i (lowerHalf i values) (omega arith) (like-lower n table size i values h b)))
         ∙ lower
         ∙ ap₂ (λ v f. v -ℤ f)
         (yes-or-no (bitSet x i)

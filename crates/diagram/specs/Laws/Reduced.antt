@@ -19,8 +19,9 @@ use Rattle.diagram.specs.Walk.{lowAt, highAt, weightAt, pathWeight}
 use Rattle.diagram.specs.Accepted.{written, nodeFunction}
 use Rattle.diagram.specs.Laws.Alike.{whole-length, block-like}
 use Rattle.diagram.specs.Laws.Nodes.{same-node, node-below}
-use Rattle.diagram.specs.Laws.Paths.{path-terminal, block-path, path-from-above}
+use Rattle.diagram.specs.Laws.Paths.{numbered-below, block-path}
 use Rattle.diagram.specs.Laws.RecordBlocks.{RecordBlock, blockOf, record-block, height-within, lower-like, upper-like, halves-differ}
+use Rattle.diagram.specs.Laws.Steps.{path-terminal, path-from-above}
 
 -- ---- differences that agree
 
@@ -49,7 +50,7 @@ module _ (n : ℕ) (table : List ℤ) (size : length table ≡ 2 ^ n) where
   block-values : (i j x : ℕ) → i ≤ n → j < 2 ^ (n - i) → nodeFunction n table (node n table i (block table i j)) x ≡ getD (block table i j) (x % 2 ^ i) (pos 0) -ℤ first (block table i j)
   block-values i j x h l =
       let b = block-like n table size i j l in
-      path-from-above n table i n (node n table i (block table i j)) x h (omega arith) (node-below n table size i (block table i j) h b)
+      path-from-above (written n table) i n (node n table i (block table i j)) x h (numbered-below n table i (node n table i (block table i j)) h (node-below n table size i (block table i j) h b))
       ∙ block-path n table size i (block table i j) x h b
 
   -- They are the block's differences.

@@ -6,6 +6,7 @@ use native.Mathlib.Omega.{arith}
 use lib.ListN.{length, getD, take, drop, length-map}
 use lib.Seq.{ext-getD}
 use lib.IntN.{ℤ, pos, negℤ, _+ℤ_, _-ℤ_, +ℤ-assoc, +ℤ-comm}
+use Rattle.numbers.specs.Extremes.{leastOf, greatestOf}
 use Rattle.numbers.specs.Lists.{numbersFrom, keep}
 use Rattle.numbers.specs.Laws.Bools.{yes-or-no}
 use Rattle.numbers.specs.Laws.Integers.{sub-add}
@@ -66,7 +67,14 @@ record-shift n c table i values =
     ap₂ (λ a b. made a b) (node-shift n c table i (lowerHalf i values)) (node-shift n c table i (upperHalf i values))
   where
     made : ℕ → ℕ → Record
-    made a b = record { variable = i; low = a; high = b; weight = first (upperHalf i values) -ℤ first (lowerHalf i values) }
+    made a b = record {
+      variable = i;
+      low = a;
+      high = b;
+      weight = first (upperHalf i values) -ℤ first (lowerHalf i values);
+      least = leastOf (differences values);
+      greatest = greatestOf (differences values);
+    }
 
 -- So all records stay.
 pub records-shift : (n : ℕ) (c : ℤ) (table : List ℤ) → records n (shift c table) ≡ records n table

@@ -8,7 +8,6 @@ use native.Mathlib.Omega.{arith}
 use lib.ListN.{length, getD}
 use lib.Pow.{pow-pos}
 use lib.IntN.{ℤ, pos, _+ℤ_, _-ℤ_, +ℤ-comm}
-use borrow.Author.Tests.{lt-ltb}
 use Rattle.numbers.specs.Answers.{accepted}
 use Rattle.numbers.specs.Ranges.{isValue}
 use Rattle.numbers.specs.Laws.Integers.{sub-add}
@@ -18,7 +17,9 @@ use Rattle.diagram.specs.Records.{offset}
 use Rattle.diagram.specs.Walk.{pathWeight, recordCount, walkValue, walk}
 use Rattle.diagram.specs.Accepted.{Accepted, written}
 use Rattle.diagram.specs.Laws.Alike.{table-like}
+use Rattle.diagram.specs.Inner.Edges.{Passing}
 use Rattle.diagram.specs.Laws.Fits.{list-fits}
+use Rattle.diagram.specs.Laws.Lists.{walk-inside}
 use Rattle.diagram.specs.Laws.Nodes.{root-last}
 use Rattle.diagram.specs.Laws.Numbering.{records-count, written-count}
 use Rattle.diagram.specs.Laws.Paths.{block-path}
@@ -43,9 +44,11 @@ offset-value : (n : ℕ) (table : List ℤ) → Accepted n table → isValue (of
 unfolding offset first
 offset-value n table a = every-at isValue table (pos 0) (a .values) 0 (let s = a .size in omega (arith, pow-pos n))
 
+-- What Build writes passes the checks, with the table's offset.
+pub written-passing : (n : ℕ) (table : List ℤ) → Accepted n table → Passing n (offset table) (written n table)
+written-passing n table a = record { variables = a .variables; start = offset-value n table a; records = list-fits n table (a .size) (a .values) }
+
 -- Walk refuses nothing and answers that value.
 pub walk-records : (n : ℕ) (table : List ℤ) → Accepted n table → (x : ℕ) → x < 2 ^ n → walk n (offset table) (written n table) x ≡ accepted (getD table x (pos 0))
-unfolding walk
 walk-records n table a x h =
-    rw (a .variables, offset-value n table a, list-fits n table (a .size) (a .values), lt-ltb x (2 ^ n) h)
-    (ap accepted (walk-value n table (a .size) x h))
+    walk-inside n (offset table) (written n table) x (written-passing n table a) h ∙ ap accepted (walk-value n table (a .size) x h)

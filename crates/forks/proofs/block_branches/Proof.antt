@@ -1,17 +1,15 @@
 -- `forks::block_branches` meets its contract: the halves of the block's part are compared. Assumes nothing.
-use Prim.Native.Nat.{ℕ, suc, _+_, _-_, _*_, _/_, _^_, _≤_}
+use Prim.Native.Nat.{suc, _+_, _*_, _/_, _^_, _≤_}
 use mathlib.Core.Path.{_≡_, sym, _∙_, ap}
 use mathlib.Core.Bool.{not}
-use mathlib.Core.List.{List}
 use native.Mathlib.Numerals.{add-one}
 use native.Mathlib.Omega.{arith}
 use lib.ListN.{length, take, drop}
-use lib.IntN.{ℤ}
 use mir.Facts.{fits-of-lt}
 use borrow.Author.Needs.{needs}
 use Rattle.blocks.specs.Blocks.{block}
 use Rattle.blocks.specs.Classes.{same}
-use Rattle.blocks.specs.Laws.Blocks.{block-length}
+use Rattle.blocks.specs.Laws.Blocks.{block-length, block-part}
 use Rattle.diagram.specs.Laws.Branching.{branches-by-halves}
 use Rattle.forks.proofs.block_branches.Statement.{statement}
 use Rattle.forks.proofs.block_branches.Tie as tie
@@ -50,18 +48,11 @@ part-same-halves-end c = within c
 same-halves-requires : tie.Need-same-halves-requires
 same-halves-requires c κs = search needs
 
--- The part from a start to an end is the block.
-part-is : (table : List ℤ) (size i j : ℕ) → size ≡ 2 ^ suc i → take (j * size + size - j * size) (drop (j * size) table) ≡ block table (suc i) j
-unfolding block
-part-is table size i j e =
-    ap (λ n. take n (drop (j * size) table)) (let d : j * size + size - j * size ≡ size = omega arith in d)
-    ∙ ap (λ s. take s (drop (j * s) table)) e
-
 returns : tie.Need-returns
 returns c =
     let d = c .before .before in
     let a = d .before .args in
-    let part = part-is (a .table .now) (d .power .result) (a .i) (a .j) (is-size d) in
+    let part = block-part (a .table .now) (d .power .result) (suc (a .i)) (a .j) (is-size d) in
     ap not (c .same-halves .ensures ∙ ap (λ l. same (take (length l / 2) l) (drop (length l / 2) l)) part)
     ∙ sym (branches-by-halves (a .i) (block (a .table .now) (suc (a .i)) (a .j)) (block-length (a .table .now) (suc (a .i)) (a .j) (d .before .pre .1)))
 

@@ -10,7 +10,7 @@ use lib.IntN.{ℤ, pos}
 use borrow.Author.Tests.{eq-eqb}
 use Rattle.numbers.specs.Lists.{every}
 use Rattle.numbers.specs.Ranges.{isVariables, isValue, eqZ}
-use Rattle.numbers.specs.Inner.Extremes.{lowest, highest}
+use Rattle.numbers.specs.Extremes.{lowest, highest}
 use Rattle.numbers.specs.Widths.{weightWidth}
 use Rattle.numbers.specs.Laws.Bools.{both, and-both}
 use Rattle.numbers.specs.Laws.Widths.{weight-width-zero}

@@ -9,7 +9,7 @@ use lib.Dec.{eqb}
 use lib.ListN.{length, getD}
 use borrow.Author.Tests.{eqb-true, eq-eqb, lt-ltb, le-ltb}
 use Rattle.numbers.specs.Lists.{sumOf}
-use Rattle.numbers.specs.Inner.Extremes.{lowest, highest}
+use Rattle.numbers.specs.Extremes.{lowest, highest}
 use Rattle.numbers.specs.Widths.{weightWidth}
 use Rattle.numbers.specs.Laws.Extremes.{width-by-extremes}
 use Rattle.image.specs.Inner.Kinds.{kindOf, isEnd}

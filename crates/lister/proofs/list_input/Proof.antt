@@ -7,34 +7,33 @@ use lib.ListN.{length, getD, replicate, length-replicate}
 use lib.Pow.{pow-mono}
 use lib.IntN.{pos}
 use borrow.Author.Tests.{not-true, not-false}
-use Rattle.numbers.specs.Ranges.{isVariables}
-use Rattle.diagram.specs.Laws.Checks.{variables-range}
-use Rattle.listing.specs.Laws.Listed.{listed-under-two, listed-outside, listed-miscounted, refusal-listed, plan-listed}
+use Rattle.listing.specs.Listing.{mostListed, isListed}
+use Rattle.listing.specs.Laws.Listed.{listed-range, listed-under-two, listed-outside, listed-miscounted, refusal-listed, plan-listed}
 use Rattle.lister.specs.Laws.Texts.{refusal-fits}
 use borrow.Author.Needs.{needs}
 use Rattle.lister.proofs.list_input.Statement.{statement}
 use Rattle.lister.proofs.list_input.Tie as tie
 
-module _ (c : tie.After-is-variables) where
+module _ (c : tie.After-is-listed) where
   abbrev start : tie.Start
   start = c .before .before .before .before .before .before
 
--- Where n is not turned away it is from 1 to 12.
+-- Where n is not turned away it is from 1 to 11.
 module _ (c : tie.Else2) where
   abbrev begun : tie.Start
   begun = start (c .before)
 
-  inside : isVariables (getD (begun .args .input .now) 0 0) ≡ true
-  inside = sym (c .before .is-variables .ensures) ∙ not-false _ (c .if2 .left)
+  inside : isListed (getD (begun .args .input .now) 0 0) ≡ true
+  inside = sym (c .before .is-listed .ensures) ∙ not-false _ (c .if2 .left)
 
-  few : getD (begun .args .input .now) 0 0 ≤ 12
-  few = variables-range (getD (begun .args .input .now) 0 0) inside .1
+  few : getD (begun .args .input .now) 0 0 ≤ 11
+  few = listed-range (getD (begun .args .input .now) 0 0) inside .1
 
 module _ (c : tie.After-power) where
-  most : c .power .result ≤ 4096
+  most : c .power .result ≤ 2048
   most =
       let e = c .power .ensures in
-      let m = pow-mono {i = getD (begun (c .before) .args .input .now) 0 0} {j = 12} (few (c .before)) in
+      let m = pow-mono {i = getD (begun (c .before) .args .input .now) 0 0} {j = 11} (few (c .before)) in
       omega arith
 
 -- Behind the checks the byte count is that of n.
@@ -42,9 +41,9 @@ module _ (c : tie.Else3) where
   counted : length (begun (c .before .before) .args .input .now) ≡ 2 + 4 * 2 ^ getD (begun (c .before .before) .args .input .now) 0 0
   counted = let e = c .if3 .left in let made = c .before .power .ensures in omega arith
 
--- A row of 4,096 places.
-in-row : (k : ℕ) → k ≤ 4096 → k ≤ length (replicate 4096 (pos 0))
-in-row k few = rw (length-replicate 4096 (pos 0)) few
+-- A row of 2,048 places.
+in-row : (k : ℕ) → k ≤ 2048 → k ≤ length (replicate 2048 (pos 0))
+in-row k few = rw (length-replicate 2048 (pos 0)) few
 
 write-refusal-requires : tie.Need-write-refusal-requires
 write-refusal-requires c κs = let s = c .before .before .before .before in refusal-fits 2 (s .args .text .now) (omega arith) (s .pre)
@@ -67,8 +66,8 @@ shared-slice-read-limit c = search needs
 cast-limit : tie.Need-cast-limit
 cast-limit c = omega (arith, c .shared-slice-known3 .given 1)
 
-is-variables-requires : tie.Need-is-variables-requires
-is-variables-requires c κs = search needs
+is-listed-requires : tie.Need-is-listed-requires
+is-listed-requires c κs = search needs
 
 write-refusal-requires-2 : tie.Need-write-refusal-requires-2
 write-refusal-requires-2 c κs = let s = c .before .before .before .before .before .before .before .before in refusal-fits 1 (s .args .text .now) (omega arith) (s .pre)
@@ -81,7 +80,7 @@ returns-2 c =
     let t = c .before .before .before .before in
     let s = start (t .before) in
     let two = t .before .before .before .before .if1 .left in
-    rw (refusal-listed (s .args .input .now) 1 (listed-outside (s .args .input .now) two (sym (t .before .is-variables .ensures) ∙ not-true _ (t .if2 .taken)))) (c .before .before .write-refusal2 .ensures)
+    rw (refusal-listed (s .args .input .now) 1 (listed-outside (s .args .input .now) two (sym (t .before .is-listed .ensures) ∙ not-true _ (t .if2 .taken)))) (c .before .before .write-refusal2 .ensures)
 
 power-requires : tie.Need-power-requires
 power-requires c κs = let f = few c in omega arith
@@ -111,6 +110,7 @@ slice-aggregate-list-values : tie.Need-slice-aggregate-list-values
 slice-aggregate-list-values c = search needs
 
 list-values-requires : tie.Need-list-values-requires
+unfolding mostListed
 list-values-requires c κs =
     let e = c .before .before in
     let s = begun (e .before .before) in
@@ -142,7 +142,7 @@ list-input-spec =
     cast-n
     shared-slice-read-limit
     cast-limit
-    is-variables-requires
+    is-listed-requires
     write-refusal-requires-2
     same-length-2
     returns-2

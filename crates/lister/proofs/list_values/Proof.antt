@@ -6,7 +6,7 @@ use native.Mathlib.Omega.{arith}
 use lib.ListN.{length, take, drop}
 use lib.Seq.{length-take-le, take-at}
 use Rattle.numbers.specs.Laws.Rows.{filled-front}
-use Rattle.listing.specs.Listing.{tableOf}
+use Rattle.listing.specs.Listing.{mostListed, tableOf}
 use Rattle.listing.specs.Inner.Values.{valuesOf}
 use Rattle.listing.specs.Laws.Listed.{table-length}
 use Rattle.listing.specs.Laws.Values.{values-table}
@@ -15,7 +15,8 @@ use Rattle.lister.proofs.list_values.Statement.{statement}
 use Rattle.lister.proofs.list_values.Tie as tie
 
 power-requires : tie.Need-power-requires
-power-requires c κs = search needs
+unfolding mostListed
+power-requires c κs = let few = c .before .before .pre .few in omega arith
 
 slice-relend-prefix-read-values : tie.Need-slice-relend-prefix-read-values
 slice-relend-prefix-read-values c = search needs
@@ -58,7 +59,7 @@ slice-aggregate-list-table : tie.Need-slice-aggregate-list-table
 slice-aggregate-list-table c = let r = c .before .before in made r ∙ sym (ap length (front r) ∙ table-length (begun r .args .input .now) (2 ^ begun r .args .n) (begun r .pre .counted))
 
 list-table-requires : tie.Need-list-table-requires
-list-table-requires c κs = search needs
+list-table-requires c κs = let s = begun (c .before .before .before) in (s .pre .few, s .pre .room)
 
 same-length : tie.Need-same-length
 same-length c = search needs

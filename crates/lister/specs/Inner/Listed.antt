@@ -7,17 +7,19 @@ use lib.IntN.{ℤ}
 use Rattle.diagram.specs.Accepted.{Accepted}
 use Rattle.cascade.specs.declared.Cell.{Cell}
 use Rattle.cascade.specs.Inner.Planned.{groups, PlannedAs}
+use Rattle.listing.specs.Listing.{mostListed}
 use Rattle.listing.specs.Program.{textRoom}
 
--- An accepted table, its planned cells, and a buffer that holds every text.
+-- An accepted table that is listed, its planned cells, and a buffer that holds every text.
 pub record TextReady (n : ℕ) (table : List ℤ) (cells : List Cell) (count bits : ℕ) (text : List ℕ) : Type 0 where
+  pub few : n ≤ mostListed
   pub admitted : Accepted n table
   pub planned : PlannedAs n table (groups cells count) cells count bits
   pub room : textRoom ≤ length text
 
 -- An input with as many values as n asks for, a row that holds them, and a buffer that holds every text.
 pub record InputCounted (input : List ℕ) (n : ℕ) (values : List ℤ) (text : List ℕ) : Type 0 where
-  pub few : n ≤ 12
+  pub few : n ≤ mostListed
   pub counted : length input ≡ 2 + 4 * 2 ^ n
   pub places : 2 ^ n ≤ length values
   pub room : textRoom ≤ length text

@@ -5,7 +5,7 @@ use mathlib.Core.List.{List, [], _∷_, _++_, map, flatMap, append-assoc}
 use native.Mathlib.Numerals.{add-one}
 use native.Mathlib.Omega.{arith}
 use lib.ListN.{length, getD, drop, length-append}
-use lib.Seq.{getD-drop, getD-take, drop-drop}
+use lib.Seq.{getD-take}
 use lib.Pow.{pow-mono}
 use lib.IntN.{ℤ, pos}
 use Rattle.numbers.specs.Lists.{numbersFrom, every, sumOf}
@@ -20,7 +20,7 @@ use Rattle.diagram.specs.Laws.Builds.{build-answered}
 use Rattle.diagram.specs.Laws.Numbering.{written-length, records-room}
 use Rattle.diagram.specs.declared.Built.{Built}
 use Rattle.diagram.specs.declared.Built.the-variants.{Diagram, Refused}
-use Rattle.diagram.specs.Walk.{numberAt, variableAt, lowAt, highAt, weightAt, recordCount}
+use Rattle.diagram.specs.Walk.{recordCount}
 use Rattle.image.specs.Cells.{Cell, totalBits}
 use Rattle.image.specs.Reader.{mostClasses}
 use Rattle.cascade.specs.Cascade.{cellsFrom}
@@ -34,11 +34,12 @@ use Rattle.cascade.specs.Laws.Cells.{variables-most, cell-address, cell-incomin
 use Rattle.cascade.specs.Laws.Lengths.{cost-most}
 use Rattle.cascade.specs.Inner.Planned.{PlannedAs}
 use Rattle.cascade.specs.Laws.Planned.{few, places, front, groups-are, plan-chosen, plan-accepts}
-use Rattle.listing.specs.Listing.{nodeLine, nodeLines, cellLine, tableText}
+use Rattle.listing.specs.Listing.{mostListed, nodeLine, nodeLines, cellLine, tableText}
 use Rattle.lines.specs.Text.{ascii, line}
 use Rattle.lister.specs.Inner.Listed.{TextReady}
 use Rattle.listing.specs.Program.{textRoom}
 use Rattle.listing.specs.Laws.Lengths.{line-length, count-field}
+use Rattle.listing.specs.Laws.Shown.{shown-here}
 use Rattle.node_lines.specs.Inner.Lines.{recordLine, recordLines, diagramText, RecordsThere}
 use Rattle.cell_lines.specs.Inner.Lines.{planLine, planLines, cascadeText, CellSmall, CellsSmall}
 
@@ -46,18 +47,11 @@ use Rattle.cell_lines.specs.Inner.Lines.{planLine, planLines, cascadeText, Cell
 
 -- The records from place m on stand in a buffer: their lines are those of the buffer's records.
 node-lines-from : (rs : List Record) (list rest : List ℤ) (m : ℕ) → drop (recordSize * m) list ≡ flatMap recordNumbers rs ++ rest → nodeLines (suc m) rs ≡ flatMap (recordLine list) (numbersFrom (suc m) (length rs))
-unfolding nodeLines nodeLine flatMap numbersFrom recordLine variableAt lowAt highAt weightAt numberAt recordSize recordNumbers
+unfolding nodeLines nodeLine flatMap numbersFrom recordLine
 node-lines-from [] list rest m e = refl
-node-lines-from (r ∷ rs) list rest m e = ap₂ (λ here more. here ++ more) (sym here) (node-lines-from rs list rest (suc m) later)
-  where
-    entry : (c : ℕ) → numberAt list (suc m) c ≡ getD (recordNumbers r ++ (flatMap recordNumbers rs ++ rest)) c (pos 0)
-    entry c = ap (λ k. getD list (recordSize * k + c) (pos 0)) (let one : suc m - 1 ≡ m = omega arith in one) ∙ sym (getD-drop (recordSize * m) list c (pos 0)) ∙ ap (λ l. getD l c (pos 0)) e
-
-    here : recordLine list (suc m) ≡ nodeLine (suc m) r
-    here = rw (entry 0, entry 1, entry 2, entry 3)
-
-    later : drop (recordSize * suc m) list ≡ flatMap recordNumbers rs ++ rest
-    later = ap (λ k. drop k list) (let more : recordSize * suc m ≡ recordSize * m + recordSize = omega arith in more) ∙ sym (drop-drop recordSize (recordSize * m) list) ∙ ap (drop recordSize) e
+node-lines-from (r ∷ rs) list rest m e =
+    let here = shown-here r rs list rest m e in
+    ap₂ (λ shown more. line "node" (pos (suc m) ∷ shown) ++ more) (here .0) (node-lines-from rs list rest (suc m) (here .1))
 
 -- What Build writes for a table, in front of a buffer: the node lines are those of its records.
 module _ (n : ℕ) (table nodes rest : List ℤ) (e : nodes ≡ written n table ++ rest) where
@@ -68,10 +62,10 @@ module _ (n : ℕ) (table nodes rest : List ℤ) (e : nodes ≡ written n table 
       (sym (node-lines-from (records n table) nodes rest 0 e))
       (add-one (length (records n table)))
 
--- A node buffer of 16,380 numbers has room for every table.
-pub most-nodes : (n : ℕ) (table : List ℤ) → Accepted n table → nodeRoom n ≤ 16380
-unfolding nodeRoom recordSize
-most-nodes n table a = let most = pow-mono {i = n} {j = 12} (variables-most n table a) in omega arith
+-- A node buffer of 12,282 numbers has room for every table that is listed.
+pub most-nodes : (n : ℕ) → n ≤ mostListed → nodeRoom n ≤ 12282
+unfolding nodeRoom recordSize mostListed
+most-nodes n few = let most = pow-mono {i = n} {j = 11} few in omega arith
 
 -- What Build answers and leaves for an accepted table, where its buffer has room.
 module _ (n : ℕ) (table buffer nodes : List ℤ) (answer : Built) (a : Accepted n table) (room : nodeRoom n ≤ length buffer) (b : Builds n table buffer answer nodes) where
@@ -161,12 +155,13 @@ module _ {n : ℕ} {table : List ℤ} {sizes : List ℕ} {cells : List PlanCell}
 
 -- ---- from Plan's promise
 
--- A plan with a grouping: its text can be written into a buffer that holds every text.
-pub text-ready : (n : ℕ) (table : List ℤ) (limit : ℕ) (p : Planned) (count bits : ℕ) (text : List ℕ) → Plans n table limit p → p .verdict ≡ Grouping count bits → textRoom ≤ length text → TextReady n table (p .cells) count bits text
-text-ready n table limit p count bits text plans e room =
+-- A plan with a grouping: where the table is listed, its text can be written into a buffer that holds every text.
+pub text-ready : (n : ℕ) (table : List ℤ) (limit : ℕ) (p : Planned) (count bits : ℕ) (text : List ℕ) → n ≤ mostListed → Plans n table limit p → p .verdict ≡ Grouping count bits → textRoom ≤ length text → TextReady n table (p .cells) count bits text
+text-ready n table limit p count bits text few plans e room =
     let chosen = plan-chosen n table limit p plans count bits e in
     let admitted = plan-accepts n table limit p plans count bits e in
     record {
+      few = few;
       admitted = admitted;
       planned = subst (λ (sizes : List ℕ). PlannedAs n table sizes (p .cells) count bits) (sym (groups-are admitted (chosen .planned))) (chosen .planned);
       room = room;

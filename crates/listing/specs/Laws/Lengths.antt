@@ -1,26 +1,26 @@
 -- How long the text is at most: every field is within ±16,777,215, so that with its space it takes at most 10 bytes.
-use Prim.Native.Nat.{ℕ, zero, suc, _+_, _-_, _*_, _/_, _%_, _≤_, _<_}
+use Prim.Native.Nat.{ℕ, suc, _+_, _*_, _≤_, _<_}
 use mathlib.Core.Path.{_≡_, refl, sym, _∙_, ap}
 use mathlib.Core.Bool.{Bool, true}
-use mathlib.Core.List.{List, [], _∷_, _++_, flatMap}
+use mathlib.Core.List.{List, [], _∷_, _++_, flatMap, append-nil}
 use Prim.Native.String.{String}
 use native.Mathlib.Omega.{arith}
-use lib.ListN.{length, getD, length-append}
+use lib.ListN.{length, getD, drop, length-append}
 use lib.Pow.{pow-mono}
-use lib.IntN.{ℤ, pos, negsuc, natAbs}
+use lib.IntN.{ℤ, pos, negsuc}
 use Rattle.numbers.specs.Answers.{Answer, accepted, refused}
 use Rattle.numbers.specs.Lists.{every, sumOf}
 use Rattle.numbers.specs.Ranges.{widestAddress, within, isValue, isWeight}
 use Rattle.numbers.specs.Laws.Bools.{both, and-both}
 use Rattle.numbers.specs.Laws.Bounds.{weight-mag, weight-of-size, difference-weight}
 use Rattle.numbers.specs.Laws.Integers.{sub-zero}
-use Rattle.numbers.specs.Laws.Lists.{every-from}
 use Rattle.diagram.specs.Accepted.{Accepted, written}
-use Rattle.diagram.specs.Records.{Record, records, recordNumbers, recordSize, offset, nodeCount}
-use Rattle.diagram.specs.Walk.{numberAt, variableAt, lowAt, highAt, weightAt, childFits}
-use Rattle.diagram.specs.Laws.Checks.{counted, child-node, RecordParts, parts-of-record}
-use Rattle.diagram.specs.Laws.Fits.{record-fits}
-use Rattle.diagram.specs.Laws.Numbering.{written-length, records-room}
+use Rattle.diagram.specs.Records.{node, Record, records, recordNumbers, recordSize, offset, nodeCount}
+use Rattle.diagram.specs.Laws.Alike.{BlockLike}
+use Rattle.diagram.specs.Laws.Fits.{block-weight}
+use Rattle.diagram.specs.Laws.Nodes.{node-below}
+use Rattle.diagram.specs.Laws.Numbering.{records-count, below-more, records-room, StandsFor}
+use Rattle.diagram.specs.Laws.RecordBlocks.{RecordBlock, blockOf, record-block, height-within, lower-like, upper-like}
 use Rattle.image.specs.Cells.{Cell, bitsOf, totalBits}
 use Rattle.image.specs.Reader.{mostClasses}
 use Rattle.cascade.specs.Cascade.{cellOf, cellsFrom, cardFor}
@@ -31,10 +31,11 @@ use Rattle.cascade.specs.Laws.Cells.{variables-most, offset-in-range, cell-addr
 use Rattle.cascade.specs.Laws.Chosen.{chosen-best}
 use Rattle.cascade.specs.Laws.Groupings.{grouping-length}
 use Rattle.cascade.specs.Laws.Lengths.{cost-fits}
-use Rattle.listing.specs.Listing.{nodeLine, nodeLines, cellLine, tableText, tableOf, listed, answerText, listing}
+use Rattle.listing.specs.Listing.{shownNumbers, nodeLine, nodeLines, cellLine, tableText, tableOf, listed, answerText, listing}
 use Rattle.lines.specs.Text.{ascii, decimal, fields, line}
 use Rattle.lines.specs.Laws.Decimals.{decimal-negative, decimal-length}
-use Rattle.listing.specs.Laws.Listed.{listed-accepted, listed-refused}
+use Rattle.listing.specs.Laws.Listed.{listed-range, listed-accepted, listed-refused}
+use Rattle.listing.specs.Laws.Shown.{shownAt, shown-here}
 
 -- ---- a line
 
@@ -84,71 +85,64 @@ value-weight z inside = ap isWeight (sym (sub-zero z)) ∙ difference-weight z (
 pub count-field : (count : ℕ) → count ≤ 16777215 → isWeight (pos count) ≡ true
 count-field count small = weight-of-size (pos count) small
 
--- Every element of two lists passes: so do those of each.
-every-parts : (test : ℤ → Bool) (left right : List ℤ) → every test (left ++ right) ≡ true → (every test left ≡ true) × (every test right ≡ true)
-unfolding every
-every-parts test [] right all = (refl, all)
-every-parts test (z ∷ left) right all =
-    let parts = both (test z) (every test (left ++ right)) all in
-    let rest = every-parts test left right (parts .1) in
-    (and-both (test z) (every test left) (parts .0) (rest .0), rest .1)
-
 -- ---- node lines
 
+-- A record whose line shows small numbers.
+abbrev showsSmall : Record → Bool
+showsSmall r = every isWeight (shownNumbers r)
+
 -- Node lines take at most 55 bytes each.
-pub node-lines-length : (rs : List Record) (k : ℕ) → every isWeight (flatMap recordNumbers rs) ≡ true → k + length rs ≤ 16777215 → length (nodeLines k rs) ≤ 55 * length rs
-unfolding nodeLines nodeLine recordNumbers flatMap every ascii
+node-lines-length : (rs : List Record) (k : ℕ) → every showsSmall rs ≡ true → k + length rs ≤ 16777215 → length (nodeLines k rs) ≤ 55 * length rs
+unfolding nodeLines nodeLine shownNumbers every ascii
 node-lines-length [] k small few = omega arith
 node-lines-length (r ∷ rs) k small few =
-    let parts = every-parts isWeight (recordNumbers r) (flatMap recordNumbers rs) small in
-    let here = line-length "node" (pos k ∷ recordNumbers r) (and-both (isWeight (pos k)) (every isWeight (recordNumbers r)) (count-field k (omega arith)) (parts .0)) in
+    let parts = both (showsSmall r) (every showsSmall rs) small in
+    let here = line-length "node" (pos k ∷ shownNumbers r) (and-both (isWeight (pos k)) (showsSmall r) (count-field k (omega arith)) (parts .0)) in
     let rest = node-lines-length rs (suc k) (parts .1) (omega arith) in
     let all = length-append (nodeLine k r) (nodeLines (suc k) rs) in
     omega arith
 
 module _ (n : ℕ) (table : List ℤ) (a : Accepted n table) where
-  -- The numbers of each record are small.
-  record-numbers : (m : ℕ) → 0 < m → m ≤ length (records n table) → (c : ℕ) → c < 4 → isWeight (numberAt (written n table) m c) ≡ true
-  unfolding variableAt lowAt highAt weightAt
-  record-numbers m some last = each
+  -- What Build's buffer shows of each record is small.
+  shown-small : (m : ℕ) → 0 < m → m ≤ length (records n table) → every isWeight (shownAt (written n table) m) ≡ true
+  unfolding every
+  shown-small m some last =
+      rw (s .variable, s .low, s .high, s .weight)
+      (rw (height, child _ (lower-like n table (a .size) r), child _ (upper-like n table (a .size) r), block-weight n table (a .size) (a .values) i (r .place) (r .lower) (r .inside)))
     where
-      list : List ℤ
-      list = written n table
+      r : RecordBlock n table m
+      r = record-block n table (a .size) m some last
 
-      parts : RecordParts n list m
-      parts = parts-of-record n list m (record-fits n table (a .size) (a .values) m some last)
+      i : ℕ
+      i = r .height
 
-      number : (m ≤ 4096) × (n ≤ 12)
-      number =
-          let variables = variables-most n table a in
+      s : StandsFor n table m i (blockOf r)
+      s = r .stands
+
+      few : n ≤ 12
+      few = variables-most n table a
+
+      height : isWeight (pos i) ≡ true
+      height = count-field i (let l = r .lower in omega (arith, few))
+
+      child : (values : List ℤ) → BlockLike n table i values → isWeight (pos (node n table i values)) ≡ true
+      child values like =
+          let lower = height-within n table (a .size) r in
+          let earlier = node-below n table (a .size) i values lower like in
+          let all = below-more n table i n lower in
           let room = records-room n table in
-          let most = pow-mono {i = n} {j = 12} variables in
-          (omega arith, variables)
+          let most = pow-mono {i = n} {j = 12} few in
+          count-field (node n table i values) (omega (arith, records-count n table))
 
-      below : (bound : ℕ) (z : ℤ) → bound ≤ 16777215 → (z ≡ pos (natAbs z)) × (natAbs z ≤ bound) → isWeight z ≡ true
-      below bound z small inside = weight-of-size z (let i = inside .1 in omega arith)
-
-      child : (z : ℤ) → childFits list m z ≡ true → isWeight z ≡ true
-      child z fits = below (m - 1) z (let few = number .0 in omega arith) (child-node list m z fits)
-
-      each : (c : ℕ) → c < 4 → isWeight (numberAt list m c) ≡ true
-      each zero l = below (n - 1) (variableAt list m) (let few = number .1 in omega arith) (counted (n - 1) (variableAt list m) (parts .variable))
-      each (suc zero) l = child (lowAt list m) (parts .low)
-      each (suc (suc zero)) l = child (highAt list m) (parts .high)
-      each (suc (suc (suc zero))) l = parts .weight
-      each (suc (suc (suc (suc c)))) l = absurd (omega arith)
-
-  -- All numbers of the records are small.
-  pub written-small : every isWeight (written n table) ≡ true
-  unfolding numberAt recordSize
-  written-small = every-from isWeight (written n table) (pos 0) each
-    where
-      each : (j : ℕ) → j < length (written n table) → isWeight (getD (written n table) j (pos 0)) ≡ true
-      each j l =
-          let count = written-length n table in
-          let here = record-numbers (j / 4 + 1) (omega arith) (omega arith) (j % 4) (omega arith) in
-          let place : 4 * (j / 4 + 1 - 1) + j % 4 ≡ j = omega arith in
-          rw place at here
+  -- So is what the lines of the records show, from place m on.
+  records-small : (rs : List Record) (m : ℕ) → drop (recordSize * m) (written n table) ≡ flatMap recordNumbers rs ++ [] → m + length rs ≡ length (records n table) → every showsSmall rs ≡ true
+  unfolding every
+  records-small [] m e count = refl
+  records-small (r ∷ rs) m e count =
+      let here = shown-here r rs (written n table) [] m e in
+      and-both (showsSmall r) (every showsSmall rs)
+      (ap (every isWeight) (here .0) ∙ shown-small (suc m) (omega arith) (omega arith))
+      (records-small rs (suc m) (here .1) (omega arith))
 
   -- ---- cell lines
 
@@ -182,10 +176,10 @@ module _ (n : ℕ) (table : List ℤ) (a : Accepted n table) where
 
   -- ---- the whole text
 
-  -- The text of a grouping: 4,095 node lines and 12 cell lines of 55 bytes, and three lines of 26, 16 and 16.
-  pub table-text-length : (sizes : List ℕ) → isGrouping n sizes ≡ true → length (tableText n table sizes) ≤ 225943
-  unfolding tableText every ascii nodeCount offset cardFor cost
-  table-text-length sizes grouping =
+  -- The text of a grouping of at most 11 variables: 2,047 node lines and 11 cell lines of 55 bytes, and three lines of 26, 16 and 16.
+  pub table-text-length : n ≤ 11 → (sizes : List ℕ) → isGrouping n sizes ≡ true → length (tableText n table sizes) ≤ 113248
+  unfolding tableText every ascii nodeCount offset cardFor cost recordSize
+  table-text-length few sizes grouping =
       let all = length-append (head ++ nodes ++ count ++ flatMap cellLine cells) bits in
       let lines = length-append (head ++ nodes ++ count) (flatMap cellLine cells) in
       let counted = length-append (head ++ nodes) count in
@@ -207,31 +201,29 @@ module _ (n : ℕ) (table : List ℤ) (a : Accepted n table) where
       bits : List ℕ
       bits = line "bits" (pos (totalBits cells) ∷ [])
 
-      few : (n ≤ 12) × (length (records n table) ≤ 4095)
-      few =
-          let variables = variables-most n table a in
+      few-records : length (records n table) ≤ 2047
+      few-records =
           let room = records-room n table in
-          let most = pow-mono {i = n} {j = 12} variables in
-          (variables, omega arith)
+          let most = pow-mono {i = n} {j = 11} few in
+          omega arith
 
       offset-small : isWeight (offset table) ≡ true
       offset-small = value-weight (offset table) (offset-in-range n table a sizes)
 
       head-length : length head ≤ 26
-      head-length = line-length "table" (pos n ∷ offset table ∷ []) (rw (count-field n (let v = few .0 in omega arith), offset-small))
+      head-length = line-length "table" (pos n ∷ offset table ∷ []) (rw (count-field n (omega arith), offset-small))
 
-      nodes-length : length nodes ≤ 225225
+      nodes-length : length nodes ≤ 112585
       nodes-length =
-          let r = few .1 in
-          let l = node-lines-length (records n table) 1 (written-small) (omega arith) in
+          let r = few-records in
+          let l = node-lines-length (records n table) 1 (records-small (records n table) 0 (sym (append-nil (written n table))) (omega arith)) (omega arith) in
           omega arith
 
       count-length : length count ≤ 16
-      count-length = line-length "nodes" (pos (nodeCount n table) ∷ []) (rw (count-field (nodeCount n table) (let r = few .1 in omega arith)))
+      count-length = line-length "nodes" (pos (nodeCount n table) ∷ []) (rw (count-field (nodeCount n table) (let r = few-records in omega arith)))
 
-      cells-length : length (flatMap cellLine cells) ≤ 660
+      cells-length : length (flatMap cellLine cells) ≤ 605
       cells-length =
-          let v = few .0 in
           let c = grouping-length n sizes grouping in
           let l = cell-lines-length sizes 0 (omega (arith, grouping-sum n sizes grouping)) in
           omega arith
@@ -241,15 +233,16 @@ module _ (n : ℕ) (table : List ℤ) (a : Accepted n table) where
           let digits = decimal-length 9 (totalBits cells) (let c = cost-fits n table a sizes grouping in omega arith) in
           omega (arith, one-field-length "bits" (totalBits cells))
 
--- Every text has at most 225,943 bytes.
-pub listing-length : (input : List ℕ) → length (listing input) ≤ 225943
+-- Every text has at most 113,248 bytes.
+pub listing-length : (input : List ℕ) → length (listing input) ≤ 113248
 unfolding listing answerText ascii
 listing-length input = either (listed input) refl
   where
-    either : (answer : Answer (List ℕ)) → listed input ≡ answer → length (answerText (getD input 0 0) (tableOf input) answer) ≤ 225943
+    either : (answer : Answer (List ℕ)) → listed input ≡ answer → length (answerText (getD input 0 0) (tableOf input) answer) ≤ 113248
     either (accepted sizes) e =
-        let admitted = plan-admits (getD input 0 0) (tableOf input) (getD input 1 0) sizes (listed-accepted input sizes e .1 .1) in
-        table-text-length (getD input 0 0) (tableOf input) (admitted .0) sizes (chosen-best (getD input 0 0) (tableOf input) (getD input 1 0) sizes (admitted .1 .1) .grouping)
+        let checked = listed-accepted input sizes e in
+        let admitted = plan-admits (getD input 0 0) (tableOf input) (getD input 1 0) sizes (checked .1 .1) in
+        table-text-length (getD input 0 0) (tableOf input) (admitted .0) (listed-range (getD input 0 0) (checked .0) .1) sizes (chosen-best (getD input 0 0) (tableOf input) (getD input 1 0) sizes (admitted .1 .1) .grouping)
     either (refused k) e =
         let digits = decimal-length 0 k (let nine = listed-refused input k e in omega arith) in
         omega (arith, one-field-length "refused" k)

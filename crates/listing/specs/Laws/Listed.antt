@@ -8,15 +8,14 @@ use lib.ListN.{length, getD, length-map}
 use lib.Dec.{leb, eqb}
 use lib.Pow.{pow-mono}
 use lib.IntN.{ℤ, pos}
-use borrow.Author.Tests.{le-leb, lt-leb, eqb-true, eq-eqb, ne-eqb}
+use borrow.Author.Tests.{leb-true, le-leb, lt-leb, eqb-true, eq-eqb, ne-eqb}
 use Rattle.numbers.specs.Answers.{Answer, accepted, refused, unless, andThen}
 use Rattle.numbers.specs.Lists.{numbersFrom, every}
-use Rattle.numbers.specs.Ranges.{isVariables, isLimit, isValue}
+use Rattle.numbers.specs.Ranges.{mostVariables, isVariables, isLimit, isValue}
 use Rattle.numbers.specs.Laws.Answers.{unless-accepted, unless-refused}
-use Rattle.numbers.specs.Laws.Bools.{yes-or-no}
+use Rattle.numbers.specs.Laws.Bools.{yes-or-no, both, and-both}
 use Rattle.numbers.specs.Laws.Lists.{length-range}
 use Rattle.diagram.specs.Build.{ofTable}
-use Rattle.diagram.specs.Laws.Checks.{variables-range}
 use Rattle.operands.specs.Bytes.{signedAt}
 use Rattle.cascade.specs.Compile.{imageFor, compile}
 use Rattle.cascade.specs.Groupings.{chosen}
@@ -24,8 +23,23 @@ use Rattle.cascade.specs.Plan.{plan}
 use Rattle.cascade.specs.Laws.Admitting.{plan-admits}
 use Rattle.cascade.specs.Laws.Chosen.{chosen-best, chosen-refuses-by-nine}
 use Rattle.cascade.specs.Laws.Lengths.{image-length-most}
-use Rattle.listing.specs.Listing.{imageRoom, tableOf, listed, answerText, listing}
+use Rattle.listing.specs.Listing.{mostListed, isListed, imageRoom, tableOf, listed, answerText, listing}
 use Rattle.lines.specs.Text.{line}
+
+-- n of a table that is listed is from 1 to 11.
+pub listed-range : (n : ℕ) → isListed n ≡ true → (1 ≤ n) × (n ≤ 11)
+unfolding isListed mostListed
+listed-range n h = let b = both (leb 1 n) (leb n 11) h in (leb-true 1 n (b .0), leb-true n 11 (b .1))
+
+-- Every such n is listed.
+pub range-listed : (n : ℕ) → 1 ≤ n → n ≤ 11 → isListed n ≡ true
+unfolding isListed mostListed
+range-listed n some few = and-both (leb 1 n) (leb n 11) (le-leb 1 n some) (le-leb n 11 few)
+
+-- Compile takes it.
+listed-is-variables : (n : ℕ) → isListed n ≡ true → isVariables n ≡ true
+unfolding isVariables mostVariables
+listed-is-variables n h = let r = listed-range n h in and-both (leb 1 n) (leb n 12) (le-leb 1 n (r .0)) (le-leb n 12 (omega (arith, r .1)))
 
 -- An image buffer of 57,425 bytes or more holds every image: Compile's answer is Plan's, and 10 never occurs.
 pub compile-planned : (n : ℕ) (table : List ℤ) (limit room : ℕ) → 57425 ≤ room → compile n table limit room ≡ plan n table limit
@@ -49,39 +63,39 @@ table-length input count e = length-map (numbersFrom 0 ((length input - 2) / 4))
 
 module _ (input : List ℕ) where
   -- The chosen sizes go by the checks on the bytes, then by Plan.
-  pub listed-plan : listed input ≡ unless (leb 2 (length input)) 2 (unless (isVariables (getD input 0 0)) 1 (unless (eqb (length input) (2 + 4 * 2 ^ getD input 0 0)) 2 (plan (getD input 0 0) (tableOf input) (getD input 1 0))))
+  pub listed-plan : listed input ≡ unless (leb 2 (length input)) 2 (unless (isListed (getD input 0 0)) 1 (unless (eqb (length input) (2 + 4 * 2 ^ getD input 0 0)) 2 (plan (getD input 0 0) (tableOf input) (getD input 1 0))))
   unfolding listed imageRoom
   listed-plan =
-      ap (λ rest. unless (leb 2 (length input)) 2 (unless (isVariables (getD input 0 0)) 1 (unless (eqb (length input) (2 + 4 * 2 ^ getD input 0 0)) 2 rest)))
+      ap (λ rest. unless (leb 2 (length input)) 2 (unless (isListed (getD input 0 0)) 1 (unless (eqb (length input) (2 + 4 * 2 ^ getD input 0 0)) 2 rest)))
       (compile-planned (getD input 0 0) (tableOf input) (getD input 1 0) imageRoom (omega arith))
 
   -- Under two bytes: 2.
   pub listed-under-two : length input < 2 → listed input ≡ refused 2
   listed-under-two short = listed-plan ∙ rw (lt-leb 2 (length input) short)
 
-  -- A number of variables outside 1..12: 1.
-  pub listed-outside : 2 ≤ length input → isVariables (getD input 0 0) ≡ false → listed input ≡ refused 1
+  -- A number of variables outside 1..11: 1.
+  pub listed-outside : 2 ≤ length input → isListed (getD input 0 0) ≡ false → listed input ≡ refused 1
   listed-outside two outside = listed-plan ∙ rw (le-leb 2 (length input) two, outside)
 
   -- A wrong byte count: 2.
-  pub listed-miscounted : 2 ≤ length input → isVariables (getD input 0 0) ≡ true → (length input ≡ 2 + 4 * 2 ^ getD input 0 0 → ⊥) → listed input ≡ refused 2
+  pub listed-miscounted : 2 ≤ length input → isListed (getD input 0 0) ≡ true → (length input ≡ 2 + 4 * 2 ^ getD input 0 0 → ⊥) → listed input ≡ refused 2
   listed-miscounted two inside other = listed-plan ∙ rw (le-leb 2 (length input) two, inside, ne-eqb (length input) (2 + 4 * 2 ^ getD input 0 0) other)
 
   -- Else Plan's checks of the values and of the limit, and its choice.
-  pub listed-counted : isVariables (getD input 0 0) ≡ true → length input ≡ 2 + 4 * 2 ^ getD input 0 0
+  pub listed-counted : isListed (getD input 0 0) ≡ true → length input ≡ 2 + 4 * 2 ^ getD input 0 0
       → listed input ≡ unless (every isValue (tableOf input)) 3 (unless (isLimit (getD input 1 0)) 8 (chosen (getD input 0 0) (tableOf input) (getD input 1 0)))
   unfolding plan ofTable
   listed-counted inside count =
       listed-plan
-      ∙ rw (le-leb 2 (length input) (omega arith), eq-eqb (length input) (2 + 4 * 2 ^ getD input 0 0) count, inside, eq-eqb (length (tableOf input)) (2 ^ getD input 0 0) (table-length input (2 ^ getD input 0 0) count))
+      ∙ rw (le-leb 2 (length input) (omega arith), eq-eqb (length input) (2 + 4 * 2 ^ getD input 0 0) count, inside, listed-is-variables (getD input 0 0) inside, eq-eqb (length (tableOf input)) (2 ^ getD input 0 0) (table-length input (2 ^ getD input 0 0) count))
 
   -- Where sizes are listed, the checks on the bytes are passed and Plan accepts.
   pub listed-accepted : (sizes : List ℕ) → listed input ≡ accepted sizes
-      → (isVariables (getD input 0 0) ≡ true) × ((length input ≡ 2 + 4 * 2 ^ getD input 0 0) × (plan (getD input 0 0) (tableOf input) (getD input 1 0) ≡ accepted sizes))
+      → (isListed (getD input 0 0) ≡ true) × ((length input ≡ 2 + 4 * 2 ^ getD input 0 0) × (plan (getD input 0 0) (tableOf input) (getD input 1 0) ≡ accepted sizes))
   listed-accepted sizes e =
       let counted = unless (eqb (length input) (2 + 4 * 2 ^ getD input 0 0)) 2 (plan (getD input 0 0) (tableOf input) (getD input 1 0)) in
-      let two = unless-accepted (leb 2 (length input)) 2 (unless (isVariables (getD input 0 0)) 1 counted) sizes (sym listed-plan ∙ e) in
-      let inside = unless-accepted (isVariables (getD input 0 0)) 1 counted sizes (two .1) in
+      let two = unless-accepted (leb 2 (length input)) 2 (unless (isListed (getD input 0 0)) 1 counted) sizes (sym listed-plan ∙ e) in
+      let inside = unless-accepted (isListed (getD input 0 0)) 1 counted sizes (two .1) in
       let count = unless-accepted (eqb (length input) (2 + 4 * 2 ^ getD input 0 0)) 2 (plan (getD input 0 0) (tableOf input) (getD input 1 0)) sizes (inside .1) in
       (inside .0, (eqb-true (length input) (2 + 4 * 2 ^ getD input 0 0) (count .0), count .1))
 
@@ -90,8 +104,8 @@ module _ (input : List ℕ) where
   unfolding plan ofTable
   listed-refused k e =
       first-check (leb 2 (length input)) 2
-      (unless (isVariables n) 1 (unless (eqb (length input) (2 + 4 * 2 ^ n)) 2 (plan n table limit))) (omega arith)
-      (first-check (isVariables n) 1 (unless (eqb (length input) (2 + 4 * 2 ^ n)) 2 (plan n table limit)) (omega arith)
+      (unless (isListed n) 1 (unless (eqb (length input) (2 + 4 * 2 ^ n)) 2 (plan n table limit))) (omega arith)
+      (first-check (isListed n) 1 (unless (eqb (length input) (2 + 4 * 2 ^ n)) 2 (plan n table limit)) (omega arith)
       (first-check (eqb (length input) (2 + 4 * 2 ^ n)) 2 (plan n table limit) (omega arith)
       (first-check (isVariables n) 1 (unless (eqb (length table) (2 ^ n)) 2 (unless (every isValue table) 3 (unless (isLimit limit) 8 (chosen n table limit)))) (omega arith)
       (first-check (eqb (length table) (2 ^ n)) 2 (unless (every isValue table) 3 (unless (isLimit limit) 8 (chosen n table limit))) (omega arith)
@@ -118,7 +132,7 @@ module _ (input : List ℕ) where
   refusal-listed k e = ap (answerText (getD input 0 0) (tableOf input)) e
 
   -- Plan's answer for an input that passed the checks on its bytes.
-  pub plan-listed : isVariables (getD input 0 0) ≡ true → length input ≡ 2 + 4 * 2 ^ getD input 0 0 → listing input ≡ answerText (getD input 0 0) (tableOf input) (plan (getD input 0 0) (tableOf input) (getD input 1 0))
+  pub plan-listed : isListed (getD input 0 0) ≡ true → length input ≡ 2 + 4 * 2 ^ getD input 0 0 → listing input ≡ answerText (getD input 0 0) (tableOf input) (plan (getD input 0 0) (tableOf input) (getD input 1 0))
   unfolding listing
   plan-listed inside count =
       ap (answerText (getD input 0 0) (tableOf input))
@@ -127,17 +141,17 @@ module _ (input : List ℕ) where
 -- ---- the longest input
 
 -- A shorter list of bytes that is still longer than every admitted input, with the same first bytes, is refused as the longer one is.
-pub listed-too-long : (input shorter : List ℕ) → 2 + 4 * 2 ^ 12 < length input → 2 + 4 * 2 ^ 12 < length shorter → getD shorter 0 0 ≡ getD input 0 0
+pub listed-too-long : (input shorter : List ℕ) → 2 + 4 * 2 ^ 11 < length input → 2 + 4 * 2 ^ 11 < length shorter → getD shorter 0 0 ≡ getD input 0 0
     → (k : ℕ) × ((listed input ≡ refused k) × (listed shorter ≡ refused k))
 listed-too-long input shorter long less same =
-    yes-or-no (isVariables (getD input 0 0))
+    yes-or-no (isListed (getD input 0 0))
     (λ inside.
-    let few = variables-range (getD input 0 0) inside .1 in
-    let most = pow-mono {i = getD input 0 0} {j = 12} few in (
+    let few = listed-range (getD input 0 0) inside .1 in
+    let most = pow-mono {i = getD input 0 0} {j = 11} few in (
       2,
       (
         listed-miscounted input (omega arith) inside (λ e. omega arith),
-        listed-miscounted shorter (omega arith) (ap isVariables same ∙ inside) (λ e. let f = e ∙ ap (λ v. 2 + 4 * 2 ^ v) same in omega arith),
+        listed-miscounted shorter (omega arith) (ap isListed same ∙ inside) (λ e. let f = e ∙ ap (λ v. 2 + 4 * 2 ^ v) same in omega arith),
       ),
     ))
-    (λ outside. (1, (listed-outside input (omega arith) outside, listed-outside shorter (omega arith) (ap isVariables same ∙ outside))))
+    (λ outside. (1, (listed-outside input (omega arith) outside, listed-outside shorter (omega arith) (ap isListed same ∙ outside))))

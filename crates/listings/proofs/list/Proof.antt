@@ -15,7 +15,7 @@ returns : tie.Need-returns
 unfolding listAnswer listBuffer textRoom
 returns c =
     let s = c .before .before .before in
-    let short = lt-leb 225943 (length (s .args .text .now)) (c .if1 .taken) in
+    let short = lt-leb 113248 (length (s .args .text .now)) (c .if1 .taken) in
     record { answered = rw short; left = rw short }
 
 list-input-requires : tie.Need-list-input-requires
@@ -32,7 +32,7 @@ returns-2 c =
     let s = e .before .before .before in
     let text = listing (s .args .input .now) in
     let w = c .before .before .list-input .ensures in
-    let enough = le-leb 225943 (length (s .args .text .now)) (e .if1 .left) in
+    let enough = le-leb 113248 (length (s .args .text .now)) (e .if1 .left) in
     record { answered = rw enough (ap Text (w .behind ∙ zero-add (length text))); left = rw enough (w .written ∙ overwritten-front (s .args .text .now) text) }
 
 pub list-spec : {M : Type 1} → statement M

@@ -1,22 +1,34 @@
--- `lists::records_fit` meets its contract. The loop's invariant: the records from k on decide. Assumes nothing.
-use Prim.Native.Nat.{ℕ, _+_, _-_, _≤_}
+-- `lists::records_fit` meets its contract. The loop's invariant: the records before k pass, those from k on decide. Assumes nothing.
+use Prim.Native.Nat.{ℕ, _+_, _-_, _≤_, _<_}
 use mathlib.Core.Path.{_≡_, refl, sym, _∙_, ap}
+use mathlib.Core.Bool.{true}
 use mathlib.Core.List.{List}
 use native.Mathlib.Omega.{arith}
+use native.Mathlib.Decide.{decLt}
 use lib.IntN.{ℤ}
 use borrow.Author.Tests.{not-true, not-false}
 use Rattle.numbers.specs.Lists.{numbersFrom, every}
 use Rattle.diagram.specs.Records.{recordSize}
 use Rattle.diagram.specs.Walk.{recordFits, recordCount}
+use Rattle.diagram.specs.Inner.Edges.{EarlierPass}
 use Rattle.diagram.specs.Laws.Checks.{passes-here, fails-here, none-left}
 use Rattle.lists.proofs.records_fit.Statement.{statement}
 use Rattle.lists.proofs.records_fit.Tie as tie
 
--- The records from k on decide.
+-- The records before k pass, and those from k on decide.
 record Deciding (n : ℕ) (list : List ℤ) (k : ℕ) : Type 0 where
   from-one : 1 ≤ k
   within : k ≤ recordCount list + 1
+  earlier : EarlierPass n list k
   decides : every (recordFits n list) (numbersFrom 1 (recordCount list)) ≡ every (recordFits n list) (numbersFrom k (recordCount list + 1 - k))
+
+-- One record more passed.
+one-more : (n : ℕ) (list : List ℤ) (k : ℕ) → EarlierPass n list k → recordFits n list k ≡ true → EarlierPass n list (k + 1)
+one-more n list k e h = record { pass = λ m one l. before-or-here m one l (decLt m k) }
+  where
+    before-or-here : (m : ℕ) → 1 ≤ m → m < k + 1 → Dec (m < k) → recordFits n list m ≡ true
+    before-or-here m one l (yes p) = e .pass m one p
+    before-or-here m one l (no p) = ap (recordFits n list) (let q : m ≡ k = omega arith in q) ∙ h
 
 abbrev Inv-loop : tie.InvT-loop
 Inv-loop n records count k₀ k = (count ≡ recordCount records) × Deciding n records k
@@ -31,6 +43,7 @@ loop-holds c = (
   record {
     from-one = omega arith;
     within = omega arith;
+    earlier = record { pass = λ m one l. absurd (omega arith) };
     decides = ap (λ m. every (recordFits (c .args .n) (c .args .records .now)) (numbersFrom 1 m)) (let e : recordCount (c .args .records .now) ≡ recordCount (c .args .records .now) + 1 - 1 = omega arith in e);
   },
 )
@@ -38,7 +51,7 @@ loop-holds c = (
 record-fits-requires : tie.Need-record-fits-requires Inv-loop μ-loop
 record-fits-requires c κs =
     let i = c .before .loop .inv in
-    (c .before .before .pre, record { from-one = i .1 .from-one; among = let e = i .0 in let l = c .loop-test .taken in omega arith })
+    (c .before .before .pre, record { from-one = i .1 .from-one; among = let e = i .0 in let l = c .loop-test .taken in omega arith }, i .1 .earlier)
 
 returns : tie.Need-returns Inv-loop μ-loop
 returns c =
@@ -67,6 +80,7 @@ loop-again c =
       record {
         from-one = omega arith;
         within = let e = i .0 in omega arith;
+        earlier = one-more (a .n) (a .records .now) k (i .1 .earlier) (sym (c .before .record-fits .ensures) ∙ not-false _ (c .if1 .left));
         decides =
             i .1 .decides
             ∙ passes-here (recordFits (a .n) (a .records .now)) k (recordCount (a .records .now) + 1 - k) (sym (c .before .record-fits .ensures) ∙ not-false _ (c .if1 .left)) (let e = i .0 in omega arith)

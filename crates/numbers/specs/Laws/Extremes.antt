@@ -11,7 +11,7 @@ use lib.Signed.{mag, leZ}
 use borrow.Author.Tests.{leb-true, leb-false, le-leb, ltb-true, lt-ltb}
 use Rattle.numbers.specs.Lists.{every}
 use Rattle.numbers.specs.Ranges.{eqZ, lesser, greater}
-use Rattle.numbers.specs.Inner.Extremes.{lowest, highest}
+use Rattle.numbers.specs.Extremes.{lowest, highest}
 use Rattle.numbers.specs.Widths.{holds, weightWidth}
 use Rattle.numbers.specs.Laws.Bools.{yes-or-no, both, and-both}
 use Rattle.numbers.specs.Laws.Integers.{eqZ-true, eqZ-refl}

@@ -1,17 +1,19 @@
 -- What two's complement holds: a number read back from its bits, its sign and its magnitude.
 use Prim.Native.Nat.{ℕ, zero, suc, _+_, _-_, _^_, _≤_, _<_, zero-le}
 use native.Mathlib.Omega.{arith}
-use borrow.Author.Tests.{le-ltb}
+use borrow.Author.Tests.{le-ltb, eq-eqb, ne-eqb}
 use mathlib.Core.Path.{_≡_, refl, sym, _∙_, ap}
 use mathlib.Core.Bool.{true, false, false≢true, true≢false}
-use lib.Dec.{T, ltb}
+use lib.Dec.{T, ltb, eqb}
 use lib.IntN.{ℤ, pos, negsuc, negℤ, natAbs, subℕ, _+ℤ_, _-ℤ_}
 use lib.Signed.{mag, ltZ, nonNeg}
 use mir.Syntax.{Width, w32, w64}
 use mir.Val.{Fits, SFits, ofZ, toZ}
 use mir.ValLaws.{half-full}
 use mir.Facts.{toZ-ofZ, sfits-widen}
+use Rattle.numbers.specs.Ranges.{eqZ}
 use Rattle.numbers.specs.Laws.Bools.{yes-or-no}
+use Rattle.numbers.specs.Laws.Integers.{eqZ-true, eqZ-refl}
 
 -- -1 less a negative number is its magnitude.
 pub complement : (z : ℤ) → ltZ z (pos 0) ≡ true → negsuc 0 -ℤ z ≡ pos (mag z)
@@ -41,6 +43,13 @@ cast-back w y p e h = rw e (tt, h)
 -- Numbers with equal bits are equal.
 pub same-bits : (w : Width) (y z : ℤ) → SFits w y → SFits w z → ofZ w y ≡ ofZ w z → y ≡ z
 same-bits w y z hy hz e = sym (toZ-ofZ hy) ∙ ap (toZ w) e ∙ toZ-ofZ hz
+
+-- Whether two numbers have the same bits.
+pub bits-equal : (w : Width) (y z : ℤ) → SFits w y → SFits w z → eqb (ofZ w y) (ofZ w z) ≡ eqZ y z
+bits-equal w y z hy hz =
+    yes-or-no (eqZ y z)
+    (λ e. eq-eqb (ofZ w y) (ofZ w z) (ap (ofZ w) (eqZ-true y z e)) ∙ sym e)
+    (λ e. ne-eqb (ofZ w y) (ofZ w z) (λ bits. false≢true (sym e ∙ ap (eqZ y) (sym (same-bits w y z hy hz bits)) ∙ eqZ-refl y)) ∙ sym e)
 
 -- ---- sums and differences
 

@@ -43,12 +43,26 @@ module _ {A : Type 0} (test : A → Bool) where
     pub kept-below : test (getD l c d) ≡ true → length (keep test (take c l)) < length (keep test l)
     kept-below e = rw (kept-split e, length-append) (omega arith)
 
--- Four entries, stored one by one.
-pub four-stored : {A : Type 0} (row : List A) (at : ℕ) (a b c d : A) → at + 4 ≤ length row → set (set (set (set row at a) (at + 1) b) (at + 2) c) (at + 3) d ≡ overwritten row at (a ∷ b ∷ c ∷ d ∷ [])
+-- Six entries, stored one by one.
+pub six-stored : {A : Type 0} (row : List A) (at : ℕ) (a b c d e f : A) → at + 6 ≤ length row → set (set (set (set (set (set row at a) (at + 1) b) (at + 2) c) (at + 3) d) (at + 4) e) (at + 5) f ≡ overwritten row at (a ∷ b ∷ c ∷ d ∷ e ∷ f ∷ [])
 unfolding overwritten
-four-stored row at a b c d h =
-    rw (let p : at + 1 ≡ suc at = omega arith in p, let q : at + 2 ≡ suc (suc at) = omega arith in q, let r : at + 3 ≡ suc (suc (suc at)) = omega arith in r)
-    (sets-eq (a ∷ b ∷ c ∷ d ∷ []) row at h ∙ append-assoc (take at row) (a ∷ b ∷ c ∷ d ∷ []) (drop (at + 4) row))
+six-stored row at a b c d e f h =
+    rw (one, two, three, four, five) (sets-eq (a ∷ b ∷ c ∷ d ∷ e ∷ f ∷ []) row at h ∙ append-assoc (take at row) (a ∷ b ∷ c ∷ d ∷ e ∷ f ∷ []) (drop (at + 6) row))
+  where
+    one : at + 1 ≡ suc at
+    one = omega arith
+
+    two : at + 2 ≡ suc (suc at)
+    two = omega arith
+
+    three : at + 3 ≡ suc (suc (suc at))
+    three = omega arith
+
+    four : at + 4 ≡ suc (suc (suc (suc at)))
+    four = omega arith
+
+    five : at + 5 ≡ suc (suc (suc (suc (suc at))))
+    five = omega arith
 
 -- ---- a row with new entries from a place on
 

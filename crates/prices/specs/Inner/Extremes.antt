@@ -3,7 +3,7 @@ use Prim.Native.Nat.{ℕ}
 use mathlib.Core.List.{List}
 use lib.ListN.{take}
 use lib.IntN.{ℤ, pos}
-use Rattle.numbers.specs.Inner.Extremes.{lowest, highest}
+use Rattle.numbers.specs.Extremes.{lowest, highest}
 use Rattle.image.specs.WellFormed.{weights}
 use Rattle.cascade.specs.Cascade.{wordsOf}
 use Rattle.prices.specs.declared.Extremes.{Extremes}

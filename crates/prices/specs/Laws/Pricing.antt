@@ -13,7 +13,7 @@ use mir.Syntax.{w32}
 use mir.Val.{SFits}
 use Rattle.numbers.specs.Ranges.{lesser, greater}
 use Rattle.numbers.specs.Widths.{railWidth, weightWidth, cellBits}
-use Rattle.numbers.specs.Inner.Extremes.{lowest, highest}
+use Rattle.numbers.specs.Extremes.{lowest, highest}
 use Rattle.numbers.specs.Laws.Extremes.{lowest-snoc, highest-snoc, width-by-extremes}
 use Rattle.numbers.specs.Laws.Lists.{map-append}
 use Rattle.numbers.specs.Laws.Powers.{part-room}

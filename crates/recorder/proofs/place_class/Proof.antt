@@ -6,7 +6,8 @@ use native.Mathlib.Numerals.{add-one}
 use native.Mathlib.Omega.{arith}
 use lib.ListN.{set}
 use mir.Syntax.{w32}
-use mir.Val.{ofZ, toZ}
+use mir.Val.{SFits, ofZ, toZ}
+use mir.Facts.{fits-of-lt}
 use borrow.Author.Needs.{needs}
 use borrow.Author.Tests.{not-true, not-false}
 use Rattle.numbers.specs.Inner.Rows.{overwritten}
@@ -44,14 +45,6 @@ module _ (c : tie.After-struct-known) where
       let e = sym (c .before .fork-at .ensures) in
       (rw (add-one (start .args .h)) (s .0), (subst (λ (f : Fork). f .low < 4096) e (s .1 .0), subst (λ (f : Fork). f .high < 4096) e (s .1 .1)))
 
-  -- Its record.
-  is-record : record { variable = start .args .n - (start .args .h + 1); low = c .before .fork-at .result .low; high = c .before .fork-at .result .high; weight = toZ w32 (ofZ w32 (c .before .fork-at .result .weight)) }
-      ≡ recordOf (start .args .n) (start .args .table .now) (start .args .n - suc (start .args .h)) (classAt (start .args .n) (start .args .table .now) (start .args .h) (start .args .c))
-  is-record =
-      let a = start .args in
-      ap (λ k. record { variable = a .n - k; low = c .before .fork-at .result .low; high = c .before .fork-at .result .high; weight = toZ w32 (ofZ w32 (c .before .fork-at .result .weight)) }) (add-one (a .h))
-      ∙ fork-record (a .n) (a .table .now) (a .n - suc (a .h)) (classAt (a .n) (a .table .now) (a .h) (a .c)) (c .before .fork-at .result) (c .before .fork-at .ensures) (fork-weight-fits (start .pre .0))
-
 passes : (c : tie.Then1) → branches (start (c .before) .args .n - suc (start (c .before) .args .h)) (classAt (start (c .before) .args .n) (start (c .before) .args .table .now) (start (c .before) .args .h) (start (c .before) .args .c)) ≡ false
 passes c = branching (c .before) ∙ not-true _ (c .if1 .taken)
 
@@ -69,25 +62,57 @@ returns c =
       recorded = rw (passes t);
     }
 
+class-range-requires : tie.Need-class-range-requires
+class-range-requires c κs = start (c .before) .pre .0 .class
+
+-- Its record.
+module _ (c : tie.After-struct-told3) where
+  abbrev ranged : tie.After-class-range
+  ranged = c .before .before .before .before
+
+  abbrev known : tie.After-struct-known
+  known = ranged .before .before
+
+  is-record : record {
+    variable = start known .args .n - (start known .args .h + 1);
+    low = known .before .fork-at .result .low;
+    high = known .before .fork-at .result .high;
+    weight = toZ w32 (ofZ w32 (known .before .fork-at .result .weight));
+    least = toZ w32 (ofZ w32 (ranged .class-range .result .least));
+    greatest = toZ w32 (ofZ w32 (ranged .class-range .result .greatest));
+  }
+      ≡ recordOf (start known .args .n) (start known .args .table .now) (start known .args .n - suc (start known .args .h)) (classAt (start known .args .n) (start known .args .table .now) (start known .args .h) (start known .args .c))
+  unfolding forkOf
+  is-record =
+      let a = start known .args in
+      let f = known .before .fork-at .result in
+      let r = ranged .class-range .result in
+      let told = c .before .struct-told2 .given in
+      ap (λ k. record { variable = a .n - k; low = f .low; high = f .high; weight = toZ w32 (ofZ w32 (f .weight)); least = toZ w32 (ofZ w32 (r .least)); greatest = toZ w32 (ofZ w32 (r .greatest)) }) (add-one (a .h))
+      ∙ fork-record (a .n) (a .table .now) (a .n - suc (a .h)) (classAt (a .n) (a .table .now) (a .h) (a .c)) f r (known .before .fork-at .ensures) (ranged .class-range .ensures)
+      (subst (λ (g : Fork). SFits w32 (g .weight)) (sym (known .before .fork-at .ensures)) (fork-weight-fits (start known .pre .0)))
+      (record { sfits = told .0 .1 })
+      (record { sfits = told .1 .0 .1 })
+
 add-write-record : tie.Need-add-write-record
 add-write-record c = search needs
 
 sub-write-record : tie.Need-sub-write-record
-sub-write-record c = let l = start (c .before .before) .pre .0 .class .cut in omega arith
+sub-write-record c = let l = start (c .before .before .before) .pre .0 .class .cut in omega arith
 
 write-record-requires : tie.Need-write-record-requires
 write-record-requires c κs =
-    let e = c .before .before in
+    let e = ranged c .before in
     (start (e .before) .pre .1 .room (branched e), small (e .before))
 
 add-set-in-cut : tie.Need-add-set-in-cut
-add-set-in-cut c = search needs
+add-set-in-cut c = let f = start (known (c .before .before .before)) .pre .1 .few in fits-of-lt (omega arith)
 
 set-in-cut-requires-2 : tie.Need-set-in-cut-requires-2
-set-in-cut-requires-2 c κs = let f = c .before .before .before .before .before .before .before .before .before .before .before .before .pre .0 in (cut-fits f .0, class-row-place f)
+set-in-cut-requires-2 c κs = let f = start (known (c .before .before .before)) .pre .0 in (cut-fits f .0, class-row-place f)
 
 add-result : tie.Need-add-result
-add-result c = search needs
+add-result c = let f = start (known (c .before .before .before .before .before .before)) .pre .1 .few in fits-of-lt (omega arith)
 
 same-length-2 : tie.Need-same-length-2
 same-length-2 c = search needs
@@ -98,12 +123,12 @@ same-length-3 c = search needs
 returns-2 : tie.Need-returns-2
 returns-2 c =
     let w = c .before .before .before .before .before in
-    let e = w .before .before .before in
+    let e = ranged (w .before) .before in
     let s = start (e .before) in
     record {
       counted = rw (branched e);
       noted = rw (branched e) (c .before .before .set-in-cut2 .ensures);
-      recorded = rw (branched e) (w .write-record .ensures ∙ ap (λ r. overwritten (s .args .nodes .now) (recordSize * s .args .made) (recordNumbers r)) (is-record (e .before)));
+      recorded = rw (branched e) (w .write-record .ensures ∙ ap (λ r. overwritten (s .args .nodes .now) (recordSize * s .args .made) (recordNumbers r)) (is-record (w .before)));
     }
 
 pub place-class-spec : {M : Type 1} → statement M
@@ -114,6 +139,7 @@ place-class-spec =
     set-in-cut-requires
     same-length
     returns
+    class-range-requires
     add-write-record
     sub-write-record
     write-record-requires

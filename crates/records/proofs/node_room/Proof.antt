@@ -20,7 +20,7 @@ mul-result c = let e = c .power .ensures in let l = pow-mono {i = c .before .arg
 
 returns : tie.Need-returns
 unfolding nodeRoom recordSize
-returns c = ap (λ p. 4 * (p - 1)) (c .power .ensures)
+returns c = ap (λ p. 6 * (p - 1)) (c .power .ensures)
 
 pub node-room-spec : {M : Type 1} → statement M
 node-room-spec = tie.close (tie.spec power-requires sub-result mul-result returns)

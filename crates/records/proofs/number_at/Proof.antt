@@ -11,7 +11,7 @@ use Rattle.records.proofs.number_at.Statement.{statement}
 use Rattle.records.proofs.number_at.Tie as tie
 
 -- The place that is read.
-inside : (c : tie.Start) → 4 * (c .args .k - 1) + c .args .c < length (c .args .records .now)
+inside : (c : tie.Start) → 6 * (c .args .k - 1) + c .args .c < length (c .args .records .now)
 unfolding recordSize
 inside c = number-inside (c .args .records .now) (c .args .k) (c .args .c) (c .pre .0) (c .pre .1)
 
@@ -25,7 +25,7 @@ add-result : tie.Need-add-result
 add-result c = let l = inside c in record { fits = omega arith }
 
 mul-result-2 : tie.Need-mul-result-2
-mul-result-2 c = scaled-fits (4 * (c .args .k - 1) + c .args .c) (length (c .args .records .now)) 4 (inside c) (c .good .0 .1)
+mul-result-2 c = scaled-fits (6 * (c .args .k - 1) + c .args .c) (length (c .args .records .now)) 4 (inside c) (c .good .0 .1)
 
 shared-slice-copy-out-result : tie.Need-shared-slice-copy-out-result
 shared-slice-copy-out-result c = inside c

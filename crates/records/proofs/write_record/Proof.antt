@@ -6,13 +6,13 @@ use lib.IntN.{pos}
 use mir.Syntax.{w32}
 use mir.Facts.{toZ-pos, toZ-ofZ}
 use borrow.Author.Needs.{needs}
-use Rattle.numbers.specs.Laws.Rows.{four-stored}
+use Rattle.numbers.specs.Laws.Rows.{six-stored}
 use Rattle.diagram.specs.Records.{recordSize, recordNumbers}
 use Rattle.records.proofs.write_record.Statement.{statement}
 use Rattle.records.proofs.write_record.Tie as tie
 
--- The four places are within the buffer.
-room : (c : tie.Start) → 4 * c .args .made + 4 ≤ length (c .args .nodes .now)
+-- The six places are within the buffer.
+room : (c : tie.Start) → 6 * c .args .made + 6 ≤ length (c .args .nodes .now)
 unfolding recordSize
 room c = c .pre .0
 
@@ -43,11 +43,11 @@ slice-set-from-nodes-2 c = simp length-set (let r = room c in omega arith)
 cast-nodes-3 : tie.Need-cast-nodes-3
 cast-nodes-3 c = search needs
 
-add-t11 : tie.Need-add-t11
-add-t11 c = let r = room c in record { fits = omega arith }
+add-t13 : tie.Need-add-t13
+add-t13 c = let r = room c in record { fits = omega arith }
 
-mul-t9 : tie.Need-mul-t9
-mul-t9 c = let r = room c in let g = c .good .0 .1 in record { fits = omega arith }
+mul-t11 : tie.Need-mul-t11
+mul-t11 c = let r = room c in let g = c .good .0 .1 in record { fits = omega arith }
 
 slice-set-from-nodes-3 : tie.Need-slice-set-from-nodes-3
 slice-set-from-nodes-3 c = simp length-set (let r = room c in omega arith)
@@ -61,15 +61,33 @@ mul-weight c = let r = room c in let g = c .good .0 .1 in record { fits = omega 
 slice-set-from-weight : tie.Need-slice-set-from-weight
 slice-set-from-weight c = simp length-set (let r = room c in omega arith)
 
+add-least : tie.Need-add-least
+add-least c = let r = room c in record { fits = omega arith }
+
+mul-least : tie.Need-mul-least
+mul-least c = let r = room c in let g = c .good .0 .1 in record { fits = omega arith }
+
+slice-set-from-least : tie.Need-slice-set-from-least
+slice-set-from-least c = simp length-set (let r = room c in omega arith)
+
+add-greatest : tie.Need-add-greatest
+add-greatest c = let r = room c in record { fits = omega arith }
+
+mul-greatest : tie.Need-mul-greatest
+mul-greatest c = let r = room c in let g = c .good .0 .1 in record { fits = omega arith }
+
+slice-set-from-greatest : tie.Need-slice-set-from-greatest
+slice-set-from-greatest c = simp length-set (let r = room c in omega arith)
+
 same-length : tie.Need-same-length
-same-length c = search needs
+same-length c = simp length-set
 
 returns : tie.Need-returns
 unfolding recordSize recordNumbers
 returns c =
     let a = c .args in
-    rw (toZ-pos w32 {n = a .variable} (omega arith), toZ-pos w32 {n = a .low} (omega arith), toZ-pos w32 {n = a .high} (omega arith), toZ-ofZ (c .fits .weight))
-    (four-stored (a .nodes .now) (4 * a .made) (pos (a .variable)) (pos (a .low)) (pos (a .high)) (a .weight) (room c))
+    rw (toZ-pos w32 {n = a .variable} (omega arith), toZ-pos w32 {n = a .low} (omega arith), toZ-pos w32 {n = a .high} (omega arith), toZ-ofZ (c .fits .weight), toZ-ofZ (c .fits .least), toZ-ofZ (c .fits .greatest))
+    (six-stored (a .nodes .now) (6 * a .made) (pos (a .variable)) (pos (a .low)) (pos (a .high)) (a .weight) (a .least) (a .greatest) (room c))
 
 pub write-record-spec : {M : Type 1} → statement M
 write-record-spec =
@@ -84,11 +102,17 @@ write-record-spec =
     mul-nodes-2
     slice-set-from-nodes-2
     cast-nodes-3
-    add-t11
-    mul-t9
+    add-t13
+    mul-t11
     slice-set-from-nodes-3
     add-weight
     mul-weight
     slice-set-from-weight
+    add-least
+    mul-least
+    slice-set-from-least
+    add-greatest
+    mul-greatest
+    slice-set-from-greatest
     same-length
     returns)

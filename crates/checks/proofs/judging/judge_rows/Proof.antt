@@ -29,6 +29,9 @@ run-requires c κs = search needs
 expand-requires : tie.Need-expand-requires
 expand-requires c κs = search needs
 
+report-requires : tie.Need-report-requires
+report-requires c κs = search needs
+
 returns : tie.Need-returns
 unfolding rowsPass operationsPass
 returns c =
@@ -66,13 +69,19 @@ returns-6 c =
     c .expand .ensures ∙ sym (ap (λ k. getD (operationsPass (a .numbers .now) (a .first .now) (a .second .now) (a .third .now)) k false) (sym (c .before .before .size-at .ensures .0) ∙ c .before .match .keys6))
 
 returns-7 : tie.Need-returns-7
-unfolding rowsPass
+unfolding rowsPass operationsPass
 returns-7 c =
+    let a = c .before .before .before .args in
+    c .report .ensures ∙ sym (ap (λ k. getD (operationsPass (a .numbers .now) (a .first .now) (a .second .now) (a .third .now)) k false) (sym (c .before .before .size-at .ensures .0) ∙ c .before .match .keys7))
+
+returns-8 : tie.Need-returns-8
+unfolding rowsPass
+returns-8 c =
     let a = c .before .before .args in
     let r = c .match .rest in
     sym
     (ap (λ k. getD (operationsPass (a .numbers .now) (a .first .now) (a .second .now) (a .third .now)) k false) (sym (c .before .size-at .ensures .0))
-    ∙ other-operation (a .numbers .now) (a .first .now) (a .second .now) (a .third .now) (c .before .size-at .result) (r .0 .0 .0 .0 .0 .1) (r .0 .0 .0 .0 .1) (r .0 .0 .0 .1) (r .0 .0 .1) (r .0 .1) (r .1))
+    ∙ other-operation (a .numbers .now) (a .first .now) (a .second .now) (a .third .now) (c .before .size-at .result) (r .0 .0 .0 .0 .0 .0 .1) (r .0 .0 .0 .0 .0 .1) (r .0 .0 .0 .0 .1) (r .0 .0 .0 .1) (r .0 .0 .1) (r .0 .1) (r .1))
 
 pub judge-rows-spec : {M : Type 1} → statement M
 judge-rows-spec =
@@ -85,10 +94,12 @@ judge-rows-spec =
     compile-requires
     run-requires
     expand-requires
+    report-requires
     returns
     returns-2
     returns-3
     returns-4
     returns-5
     returns-6
-    returns-7)
+    returns-7
+    returns-8)

@@ -14,13 +14,13 @@ enum-known-verdict : tie.Need-enum-known-verdict
 enum-known-verdict c = search needs
 
 write-refusal-requires : tie.Need-write-refusal-requires
-write-refusal-requires c κs = let s = c .before .before .before .before .before .before .before in let k = c .before .known-told .given in refusal-fits _ (s .args .text .now) (omega arith) (s .pre)
+write-refusal-requires c κs = let s = c .before .before .before .before .before .before .before in let k = c .before .known-told .given in refusal-fits _ (s .args .text .now) (omega arith) (s .pre .1)
 
 enum-known-verdict-2 : tie.Need-enum-known-verdict-2
 enum-known-verdict-2 c = search needs
 
 write-table-requires : tie.Need-write-table-requires
-write-table-requires c κs = let v = c .before .before in let b = v .before .before .before in let s = b .before .before in text-ready (s .args .n) (s .args .table .now) (s .args .limit) (b .plan .result) _ _ (s .args .text .now) (b .plan .ensures) (v .verdict2 .given .1) (s .pre)
+write-table-requires c κs = let v = c .before .before in let b = v .before .before .before in let s = b .before .before in text-ready (s .args .n) (s .args .table .now) (s .args .limit) (b .plan .result) _ _ (s .args .text .now) (s .pre .0) (b .plan .ensures) (v .verdict2 .given .1) (s .pre .1)
 
 same-length : tie.Need-same-length
 same-length c = search needs

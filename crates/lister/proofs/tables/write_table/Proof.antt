@@ -12,7 +12,7 @@ use Rattle.diagram.specs.Build.{Builds, nodeRoom}
 use Rattle.diagram.specs.Records.{records, offset}
 use Rattle.cascade.specs.Laws.Cells.{variables-most}
 use Rattle.cascade.specs.Inner.Planned.{groups}
-use Rattle.listing.specs.Listing.{tableText}
+use Rattle.listing.specs.Listing.{mostListed, tableText}
 use Rattle.node_lines.specs.Inner.Lines.{diagramText, RecordsThere}
 use Rattle.cell_lines.specs.Inner.Lines.{cascadeText}
 use Rattle.listing.specs.Program.{textRoom}
@@ -31,10 +31,10 @@ module _ (c : tie.After-build) where
   abbrev left : List ℤ
   left = c .build .last .1 .1 .0
 
-  room : nodeRoom (start .args .n) ≤ length (replicate 16380 (pos 0))
-  room = rw (length-replicate 16380 (pos 0)) (most-nodes (start .args .n) (start .args .table .now) (start .pre .admitted))
+  room : nodeRoom (start .args .n) ≤ length (replicate 12282 (pos 0))
+  room = rw (length-replicate 12282 (pos 0)) (most-nodes (start .args .n) (start .pre .few))
 
-  builds : Builds (start .args .n) (start .args .table .now) (replicate 16380 (pos 0)) (c .build .result) left
+  builds : Builds (start .args .n) (start .args .table .now) (replicate 12282 (pos 0)) (c .build .result) left
   builds = c .build .ensures
 
 slice-aggregate-build : tie.Need-slice-aggregate-build
@@ -52,7 +52,7 @@ module _ (c : tie.After-number) where
   refuses =
       let b = c .before .before .before in
       let s = start b in
-      never-refused (s .args .n) (s .args .table .now) (replicate 16380 (pos 0)) (left b) (b .build .result) (s .pre .admitted) (room b) (builds b) _ (c .number .given .1)
+      never-refused (s .args .n) (s .args .table .now) (replicate 12282 (pos 0)) (left b) (b .build .result) (s .pre .admitted) (room b) (builds b) _ (c .number .given .1)
 
 write-refusal-requires : tie.Need-write-refusal-requires
 write-refusal-requires c κs = absurd (refuses (c .before .before))
@@ -72,7 +72,7 @@ module _ (c : tie.After-known-told2) where
   begun = start made
 
   summary : (c .before .all .given .0 .0 ≡ suc (length (records (begun .args .n) (begun .args .table .now)))) × (c .before .all .given .0 .1 .0 ≡ offset (begun .args .table .now))
-  summary = summary-is (begun .args .n) (begun .args .table .now) (replicate 16380 (pos 0)) (left made) (made .build .result) (begun .pre .admitted) (room made) (builds made) _ _ (c .before .all .given .1)
+  summary = summary-is (begun .args .n) (begun .args .table .now) (replicate 12282 (pos 0)) (left made) (made .build .result) (begun .pre .admitted) (room made) (builds made) _ _ (c .before .all .given .1)
 
   count-is : c .before .all .given .0 .0 - 1 ≡ length (records (begun .args .n) (begun .args .table .now))
   count-is = let e = summary .0 in omega arith
@@ -81,7 +81,7 @@ module _ (c : tie.After-known-told2) where
   offset-is = toZ-ofZ (record { sfits = c .known-told2 .given .1 .0 .1 }) ∙ summary .1
 
   there : RecordsThere (left made) (length (records (begun .args .n) (begun .args .table .now)))
-  there = records-there (begun .args .n) (begun .args .table .now) (replicate 16380 (pos 0)) (left made) (made .build .result) (begun .pre .admitted) (room made) (builds made)
+  there = records-there (begun .args .n) (begun .args .table .now) (replicate 12282 (pos 0)) (left made) (made .build .result) (begun .pre .admitted) (room made) (builds made)
 
   -- The lines of the diagram and those of the cascade are the whole text.
   abbrev diagram : List ℕ
@@ -91,14 +91,14 @@ module _ (c : tie.After-known-told2) where
   cascade = cascadeText (begun .args .cells) (begun .args .count) (begun .args .bits)
 
   whole : tableText (begun .args .n) (begun .args .table .now) (groups (begun .args .cells) (begun .args .count)) ≡ diagram ++ cascade
-  whole = whole-text (begun .pre .admitted) (begun .pre .planned) (left made) _ (records-left (begun .args .n) (begun .args .table .now) (replicate 16380 (pos 0)) (left made) (made .build .result) (begun .pre .admitted) (room made) (builds made))
+  whole = whole-text (begun .pre .admitted) (begun .pre .planned) (left made) _ (records-left (begun .args .n) (begun .args .table .now) (replicate 12282 (pos 0)) (left made) (made .build .result) (begun .pre .admitted) (room made) (builds made))
 
   -- It fits the buffer.
   fits : length diagram + length cascade ≤ length (begun .args .text .now)
-  unfolding textRoom
+  unfolding textRoom mostListed
   fits =
       let r = begun .pre .room in
-      let l = table-text-length (begun .args .n) (begun .args .table .now) (begun .pre .admitted) (groups (begun .args .cells) (begun .args .count)) (begun .pre .planned .grouping) in
+      let l = table-text-length (begun .args .n) (begun .args .table .now) (begun .pre .admitted) (begun .pre .few) (groups (begun .args .cells) (begun .args .count)) (begun .pre .planned .grouping) in
       let e = ap length whole ∙ length-append diagram cascade in
       omega arith
 

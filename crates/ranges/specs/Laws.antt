@@ -1,0 +1,2 @@
+-- Laws about ranges, which proofs cite.
+pub mod Gathering

@@ -38,7 +38,7 @@ pub fn root_of(offset: i32, records: &[i32]) -> Reached
     }
 }
 
-// What the path of X reaches from there, once so many variables from low on are read, the highest first.
+// What the path of X reaches from a value and a node, once so many variables from low on are read, the highest first.
 pub fn walk_on(records: &[i32], low: usize, count: usize, reached: Reached, x: usize) -> Reached
     requires { ⌜ PathReady (now records) low count reached ⌝ }
     ensures { λ r. ⌜ r ≡ descend (now (records .entry)) low count x reached ⌝ }

@@ -36,7 +36,7 @@ edgeAt list i (suc k) x =
       | false ↦ record { weight = pos 0; node = suc k }
     ]
 
--- What the path of X reaches from there, once so many variables from low on are read, the highest first.
+-- What the path of X reaches from a value and a node, once so many variables from low on are read, the highest first.
 unfoldable pub descend : List ℤ → ℕ → ℕ → ℕ → Reached → Reached
 descend list low zero x reached = reached
 descend list low (suc count) x reached =

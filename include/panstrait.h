@@ -21,8 +21,9 @@ extern "C" {
 size_t panstrait_rail_width(uint32_t count);
 
 /*
- * The weight width of a cell from its least and its greatest weight: the
- * least two's complement width that holds both, 0 only where both are 0.
+ * The weight width of a cell from its least and its greatest weight: where
+ * neither is negative the least a with both below 2^a, else the least two's
+ * complement width that holds both. It is 0 only where both are 0.
  */
 size_t panstrait_weight_width(int32_t least, int32_t greatest);
 

@@ -174,11 +174,13 @@ fn rail_width(count: usize) -> usize {
     (usize::BITS - (count - 1).leading_zeros()) as usize
 }
 
+/// The weight width, from the least and the greatest of a cell's weights and 0:
+/// a bit for the sign only where the least is negative.
 fn weight_width(least: i32, greatest: i32) -> usize {
-    let magnitude = (!least).max(greatest);
-    match (least, greatest) {
-        (0, 0) => 0,
-        _ => 33 - magnitude.leading_zeros() as usize,
+    let bits = |number: i32| (i32::BITS - number.leading_zeros()) as usize;
+    match least {
+        0 => bits(greatest),
+        _ => 1 + bits((!least).max(greatest)),
     }
 }
 

@@ -1,35 +1,9 @@
 //! Run and Expand: images of tables, others that pass, and damaged ones.
 
-use panstrait_compare::answers;
-use panstrait_reference as reference;
-use panstrait_reference::{Ran, Refusal};
-use panstrait_samples::{cases, drafts, figure_draft, tables, Cascade, Draft, Random, NUMBER};
-use std::ops::RangeInclusive;
+mod common;
 
-/// Both programs' answers at X.
-fn same_run(image: &[u8], x: usize) -> Result<Ran, Refusal> {
-    let answer = answers::run(image, x);
-    assert!(
-        answer == reference::run(image, x),
-        "X {x}: {answer:?} for {image:02x?}"
-    );
-    answer
-}
-
-/// Both programs' answers for a table buffer of so many numbers, compared
-/// whole, with the numbers before and after it.
-fn same_expand(image: &[u8], room: usize) -> Result<Vec<i32>, Refusal> {
-    let mut ours = vec![NUMBER; room + 8];
-    let mut theirs = ours.clone();
-    let lent = 4..room + 4;
-    let answer = answers::expand(image, &mut ours[lent.clone()]);
-    assert!(
-        answer == reference::expand(image, &mut theirs[lent.clone()]),
-        "room {room}: {answer:?} for {image:02x?}"
-    );
-    assert!(ours == theirs, "room {room}: values of {image:02x?}");
-    answer.map(|()| ours[lent].to_vec())
-}
+use common::*;
+use panstrait_samples::{cases, drafts, figure_draft, signs, tables, Cascade, Draft, Random};
 
 /// Both operations on an image that may be damaged, within and out of range.
 fn same_answers(image: &[u8], n: usize) {
@@ -39,26 +13,6 @@ fn same_answers(image: &[u8], n: usize) {
     }
     let _ = same_expand(image, size);
     let _ = same_expand(image, size + 1);
-}
-
-/// A compiled image gives its table back, one word read in each cell.
-fn gives_back(image: &[u8], table: &[i32], cells: usize, inputs: impl Iterator<Item = usize>) {
-    assert_eq!(same_expand(image, table.len()).as_deref(), Ok(table));
-    for x in inputs {
-        let value = table[x];
-        let words = cells;
-        assert_eq!(same_run(image, x), Ok(Ran { value, words }));
-    }
-}
-
-/// The images of a table's chosen groupings within some limits.
-fn chosen_drafts(n: usize, table: &[i32], limits: RangeInclusive<usize>) -> Vec<Draft> {
-    let cascade = Cascade::new(n, table);
-    let costs = cascade.costs();
-    limits
-        .filter_map(|limit| cascade.chosen(&costs, limit))
-        .map(|(_, sizes)| cascade.draft(&sizes))
-        .collect()
 }
 
 #[test]
@@ -80,6 +34,20 @@ fn large_compiled_images() {
     for n in 9..=12 {
         for table in tables::all(n, &mut random, 4) {
             for draft in chosen_drafts(n, &table, 12..=12) {
+                let inputs = (0..10).map(|_| random.below(1 << n));
+                gives_back(&draft.bytes(), &table, draft.cells.len(), inputs);
+            }
+        }
+    }
+}
+
+/// Rising tables, falling ones and those with weights of both signs.
+#[test]
+fn compiled_images_by_signs() {
+    let mut random = Random(38);
+    for n in 1..=12 {
+        for table in signs::all(n) {
+            for draft in chosen_drafts(n, &table, 1..=12) {
                 let inputs = (0..10).map(|_| random.below(1 << n));
                 gives_back(&draft.bytes(), &table, draft.cells.len(), inputs);
             }
@@ -142,6 +110,9 @@ fn small_drafts() -> Vec<Draft> {
         figure_draft(),
         grouped(1, &[5, 8], &[1]),
         grouped(1, &[8_388_607, -8_388_608], &[1]),
+        grouped(1, &[-8_388_608, 8_388_607], &[1]),
+        grouped(2, &[0, 4, -1, 3], &[1, 1]),
+        grouped(2, &[0, 4, -1, 1], &[2]),
         grouped(2, &[7; 4], &[2]),
         grouped(2, &[7; 4], &[1, 1]),
         grouped(3, &[0, -1, 3, 2, 9, 8, 0, 4], &[1, 2]),

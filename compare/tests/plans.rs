@@ -4,7 +4,9 @@
 use panstrait_compare::answers;
 use panstrait_reference as reference;
 use panstrait_reference::{Cell, Compiled, Planned, Ran, Refusal};
-use panstrait_samples::{cases, tables, Random, BYTE, FIGURE, GREATEST, LEAST, NORM, NUMBER, ROOT};
+use panstrait_samples::{
+    cases, oracle, signs, tables, Random, BYTE, FIGURE, GREATEST, LEAST, NORM, NUMBER, ROOT,
+};
 
 /// Both programs' plans.
 fn same_plan(n: usize, table: &[i32], limit: usize) -> Result<Planned, Refusal> {
@@ -105,6 +107,39 @@ fn tables_that_are_hard_to_tell_apart() {
     }
 }
 
+/// Rising tables, falling ones and those with weights of both signs.
+#[test]
+fn tables_by_signs() {
+    let mut random = Random(49);
+    for n in 1..=12 {
+        for table in signs::all(n) {
+            check_limits(n, &table, &mut random);
+        }
+    }
+}
+
+#[test]
+fn pairs_at_the_borders_of_widths() {
+    let mut random = Random(50);
+    for (table, weight) in signs::pairs_at_borders().iter().zip(signs::borders()) {
+        check_limits(1, table, &mut random);
+        let width = oracle::width([weight]);
+        let planned = same_plan(1, table, 1).expect("one cell");
+        let cells: Vec<[usize; 5]> = planned.cells.iter().map(fields).collect();
+        assert_eq!(cells, [[1, 1, 1, width, 2 * width]], "{table:?}");
+    }
+}
+
+#[test]
+fn fours_at_the_borders_of_widths() {
+    let mut random = Random(51);
+    for table in signs::fours_at_borders() {
+        for limit in [1, 2] {
+            check(2, &table, limit, &mut random);
+        }
+    }
+}
+
 #[test]
 fn random_tables() {
     let mut random = Random(43);
@@ -172,6 +207,7 @@ fn cells_worked_out_by_hand() {
 fn worked_tables() {
     let mut random = Random(48);
     check_limits(4, &FIGURE, &mut random);
+    refused(4, &FIGURE, 1, 9);
     check_limits(4, &NORM, &mut random);
     check_limits(3, &ROOT, &mut random);
 }
@@ -277,8 +313,15 @@ fn buffers_that_are_too_short() {
     for room in 0..compiled.length {
         assert_eq!(same_compile(8, &table, 12, room), Err(10));
     }
+}
+
+/// The paper's image, in as many bytes as it has.
+#[test]
+fn an_image_byte_by_byte() {
     assert_eq!(same_compile(1, &[5, 8], 1, 31), Err(10));
-    assert!(same_compile(1, &[5, 8], 1, 32).is_ok());
+    let (compiled, image) = same_compile(1, &[5, 8], 1, 32).expect("32 bytes suffice");
+    assert_eq!((compiled.length, compiled.bits), (32, 4));
+    assert_eq!(image, cases::PAIR_IMAGE);
 }
 
 /// Every set of refusals that can hold at once: the first in the paper's order.

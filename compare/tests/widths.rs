@@ -2,7 +2,7 @@
 
 use panstrait_compare::proved;
 use panstrait_reference as reference;
-use panstrait_samples::Random;
+use panstrait_samples::{cases, oracle, Random};
 
 /// Numbers around every power of two up to 2^32.
 fn around_powers() -> impl Iterator<Item = i64> {
@@ -53,6 +53,23 @@ fn same_weight_width(one: i32, other: i32) {
     );
 }
 
+/// Every border of both rules by itself, beside 0, and beside another weight.
+#[test]
+fn weight_widths_worked_out_by_hand() {
+    for case in cases::weight_widths() {
+        let pairs = match case.weights[..] {
+            [] => vec![(0, 0)],
+            [weight] => vec![(weight, weight), (weight, 0), (0, weight)],
+            [one, other] => vec![(one, other), (other, one)],
+            _ => continue,
+        };
+        for (one, other) in pairs {
+            let width = proved::weight_width(one, other);
+            assert_eq!(width, case.width, "{one} {other}");
+        }
+    }
+}
+
 #[test]
 fn weight_widths_of_all_pairs_of_borders() {
     let mut borders: Vec<i32> = around_powers()
@@ -63,6 +80,8 @@ fn weight_widths_of_all_pairs_of_borders() {
     for &one in &borders {
         for &other in &borders {
             same_weight_width(one, other);
+            let width = oracle::width([one, other]);
+            assert_eq!(proved::weight_width(one, other), width, "{one} {other}");
         }
     }
 }

@@ -27,7 +27,7 @@ pub use diagram::{build, Built};
 pub use grouping::{plan, Cell, Planned};
 pub use listing::listing;
 pub use lists::{report, walk, Reported};
-pub use reader::{expand, run, Ran};
+pub use reader::{expand, expand_older, run, run_older, Ran};
 pub use refusal::Refusal;
 pub use table::{classes, node_bound};
 pub use widths::{rail_width, weight_width};

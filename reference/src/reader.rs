@@ -1,13 +1,15 @@
 //! The image reader, and Run and Expand, which evaluate what it admits.
 //!
 //! No table or diagram is needed here, only widths: an image is first read
-//! whole into cells, with every check, and only then evaluated.
+//! whole into cells, with every check, and only then evaluated. Older images,
+//! whose cells are all signed, have a Run and an Expand of their own: the same
+//! reader by the older width rule.
 
 use crate::ranges;
 use crate::refusal::{
     require, Refusal, BYTES_AFTER, COMMAND, CUT_OFF, INPUT, OPERAND, TABLE_LENGTH,
 };
-use crate::widths::{cell_bits, rail_width, weight_width};
+use crate::widths::{cell_bits, rail_width, signed_width, weight_width};
 
 /// The command that opens an image: n, offset.
 pub(crate) const OPEN: u8 = 0x56;
@@ -48,26 +50,35 @@ struct Word {
     weight: i32,
 }
 
+/// The width that a cell with these weights must have in an image.
+type WidthRule = fn(&[i32]) -> usize;
+
 /// Run: the value of the image at X.
 pub fn run(image: &[u8], x: usize) -> Result<Ran, Refusal> {
-    let image = Image::read(image)?;
-    require(x < 1 << image.n, INPUT)?;
-    Ok(image.evaluate(x))
+    Image::read(image, weight_width)?.run(x)
 }
 
 /// Expand: the values of the image at every X, in order.
 pub fn expand(image: &[u8], table: &mut [i32]) -> Result<(), Refusal> {
-    let image = Image::read(image)?;
-    require(table.len() == 1 << image.n, TABLE_LENGTH)?;
-    for (x, value) in table.iter_mut().enumerate() {
-        *value = image.evaluate(x).value;
-    }
-    Ok(())
+    Image::read(image, weight_width)?.expand(table)
+}
+
+/// Run of an older image: the weights of every cell are signed.
+pub fn run_older(image: &[u8], x: usize) -> Result<Ran, Refusal> {
+    Image::read(image, signed_width)?.run(x)
+}
+
+/// Expand of an older image: the weights of every cell are signed.
+pub fn expand_older(image: &[u8], table: &mut [i32]) -> Result<(), Refusal> {
+    Image::read(image, signed_width)?.expand(table)
 }
 
 impl Image {
-    fn read(bytes: &[u8]) -> Result<Image, Refusal> {
-        let mut reader = Reader { left: bytes };
+    fn read(bytes: &[u8], width_rule: WidthRule) -> Result<Image, Refusal> {
+        let mut reader = Reader {
+            left: bytes,
+            width_rule,
+        };
         let (n, offset) = reader.open()?;
         let mut cells = Vec::new();
         let mut variables = n;
@@ -80,6 +91,19 @@ impl Image {
         }
         reader.end(cells.iter().map(Cell::bits).sum())?;
         Ok(Image { n, offset, cells })
+    }
+
+    fn run(&self, x: usize) -> Result<Ran, Refusal> {
+        require(x < 1 << self.n, INPUT)?;
+        Ok(self.evaluate(x))
+    }
+
+    fn expand(&self, table: &mut [i32]) -> Result<(), Refusal> {
+        require(table.len() == 1 << self.n, TABLE_LENGTH)?;
+        for (x, value) in table.iter_mut().enumerate() {
+            *value = self.evaluate(x).value;
+        }
+        Ok(())
     }
 
     fn evaluate(&self, x: usize) -> Ran {
@@ -115,15 +139,16 @@ impl Cell {
             && ranges::address_width(rail_width(self.incoming) + self.group)
     }
 
-    fn width_is_least(&self) -> bool {
+    fn width_is_least(&self, width_rule: WidthRule) -> bool {
         let weights: Vec<i32> = self.words.iter().map(|word| word.weight).collect();
-        self.width == weight_width(&weights)
+        self.width == width_rule(&weights)
     }
 }
 
-/// The bytes of an image that have not been read yet.
+/// The bytes of an image that have not been read yet, and the rule for widths.
 struct Reader<'a> {
     left: &'a [u8],
+    width_rule: WidthRule,
 }
 
 impl Reader<'_> {
@@ -159,7 +184,7 @@ impl Reader<'_> {
                 cell.words.push(self.word(group_value, cell.outgoing)?);
             }
         }
-        require(cell.width_is_least(), OPERAND)?;
+        require(cell.width_is_least(self.width_rule), OPERAND)?;
         Ok(cell)
     }
 

@@ -1,5 +1,7 @@
 //! Least widths, of rails and of weights, and the memory bits they give.
 
+use std::ops::Range;
+
 /// The bits of a rail that carries any of `count` classes: the least b with
 /// 2^b at least the count.
 pub fn rail_width(count: usize) -> usize {
@@ -10,26 +12,32 @@ pub fn rail_width(count: usize) -> usize {
     width
 }
 
-/// The least two's-complement width that holds every weight; 0 holds only 0.
+/// The weight width of a cell: unsigned, unless some weight is negative.
 pub fn weight_width(weights: &[i32]) -> usize {
-    // What a width holds, every greater width holds too.
-    weights.iter().map(|&w| width_of(w)).max().unwrap_or(0)
-}
-
-fn width_of(weight: i32) -> usize {
-    let mut width = 0;
-    while !holds(width, weight) {
-        width += 1;
+    if weights.iter().any(|&weight| weight < 0) {
+        signed_width(weights)
+    } else {
+        unsigned_width(weights)
     }
-    width
 }
 
-fn holds(width: usize, weight: i32) -> bool {
-    let half = match width {
-        0 => return weight == 0,
-        _ => 1_i64 << (width - 1),
-    };
-    (-half..half).contains(&i64::from(weight))
+/// The least a with every weight below 2^a, of weights that are not negative.
+fn unsigned_width(weights: &[i32]) -> usize {
+    least_width(weights, |a| 0..1 << a)
+}
+
+/// The least a, two's complement, that holds every weight; 0 holds only 0.
+pub(crate) fn signed_width(weights: &[i32]) -> usize {
+    least_width(weights, |a| match a {
+        0 => 0..1,
+        _ => -1 << (a - 1)..1 << (a - 1),
+    })
+}
+
+/// The least width that holds every weight, where each holds a range.
+fn least_width(weights: &[i32], held: impl Fn(usize) -> Range<i64>) -> usize {
+    let holds = |&a: &usize| weights.iter().all(|&w| held(a).contains(&w.into()));
+    (0..).find(holds).expect("32 bits hold every weight")
 }
 
 /// The memory bits of a cell: 2^(address width) words of a class and a weight.

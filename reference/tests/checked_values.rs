@@ -6,7 +6,7 @@ use common::*;
 use panstrait_reference::*;
 use panstrait_samples::*;
 
-const FIGURE_CELLS: [[usize; 5]; 3] = [[2, 1, 2, 4, 20], [1, 2, 2, 2, 12], [1, 2, 1, 2, 8]];
+const FIGURE_CELLS: [[usize; 5]; 3] = [[2, 1, 2, 3, 16], [1, 2, 2, 1, 8], [1, 2, 1, 1, 4]];
 
 #[test]
 fn p1_listing() {
@@ -17,10 +17,10 @@ fn p1_listing() {
                     node 4 2 2 0 3\n\
                     node 5 3 3 4 4\n\
                     nodes 6\n\
-                    cell 2 1 2 4 20\n\
-                    cell 1 2 2 2 12\n\
-                    cell 1 2 1 2 8\n\
-                    bits 40\n";
+                    cell 2 1 2 3 16\n\
+                    cell 1 2 2 1 8\n\
+                    cell 1 2 1 1 4\n\
+                    bits 28\n";
     let printed = listing(&listing_input(4, 4, &FIGURE));
     assert_eq!(String::from_utf8(printed).as_deref(), Ok(expected));
 }
@@ -38,7 +38,7 @@ fn p1_operations() {
     assert_eq!(image, figure_draft().bytes());
     assert_eq!((answer.nodes, answer.length), (6, image.len()));
     assert_eq!(fields(&answer.cells), FIGURE_CELLS);
-    assert_eq!(answer.bits, 40);
+    assert_eq!(answer.bits, 28);
     let planned = plan(4, &FIGURE, 4).unwrap();
     assert_eq!(planned.sizes, [2, 1, 1]);
     assert_eq!((planned.cells, planned.bits), (answer.cells, answer.bits));
@@ -47,8 +47,9 @@ fn p1_operations() {
 #[test]
 fn p2_same_cells_at_limit_2() {
     let planned = plan(4, &FIGURE, 2).unwrap();
+    assert_eq!(planned.sizes, [2, 1, 1]);
     assert_eq!(fields(&planned.cells), FIGURE_CELLS);
-    assert_eq!(planned.bits, 40);
+    assert_eq!(planned.bits, 28);
 }
 
 #[test]
@@ -62,10 +63,10 @@ fn p3_no_grouping_at_limit_1() {
 fn p4_image() {
     let expected = [
         0x56, 1, 0, 0, 0, 5, //
-        0x43, 1, 0, 1, 0, 1, 3, //
+        0x43, 1, 0, 1, 0, 1, 2, //
         0x57, 0, 0, 0, 0, 0, 0, //
         0x57, 0, 0, 0, 0, 0, 3, //
-        0x45, 0, 0, 0, 6,
+        0x45, 0, 0, 0, 4,
     ];
     let mut short = [BYTE; 31];
     assert_eq!(compile(1, &[5, 8], 1, &mut short), Err(10));
@@ -73,15 +74,24 @@ fn p4_image() {
     let mut image = [BYTE; 32];
     let answer = compile(1, &[5, 8], 1, &mut image).unwrap();
     assert_eq!((image, answer.length), (expected, 32));
+    assert_eq!(image, cases::PAIR_IMAGE);
 }
 
 #[test]
 fn p5_to_p8_costs() {
     let bits = |table: [i32; 2]| plan(1, &table, 1).unwrap().bits;
     assert_eq!(bits([3, 2]), 2);
-    assert_eq!(bits([2, 3]), 4);
+    assert_eq!(bits([2, 3]), 2);
     assert_eq!(bits([4, 2]), 4);
-    assert_eq!(bits([LEAST, GREATEST]), 50);
+    assert_eq!(bits([LEAST, GREATEST]), 48);
+}
+
+#[test]
+fn costs_of_other_pairs() {
+    let bits = |table: [i32; 2]| plan(1, &table, 1).unwrap().bits;
+    assert_eq!(bits([5, 8]), 4);
+    assert_eq!(bits([GREATEST, LEAST]), 50);
+    assert_eq!(bits([7, 7]), 0);
 }
 
 #[test]

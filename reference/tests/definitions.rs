@@ -1,4 +1,4 @@
-//! Classes, widths and the bound, and the traps the paper names.
+//! Classes, rail widths and the bound, and the traps the paper names.
 
 mod common;
 
@@ -71,45 +71,6 @@ fn rail_widths() {
 }
 
 #[test]
-fn weight_widths() {
-    let expected = [
-        (0, 0),
-        (-1, 1),
-        (1, 2),
-        (-2, 2),
-        (2, 3),
-        (3, 3),
-        (-4, 3),
-        (4, 4),
-        (-5, 4),
-        (MOST_WEIGHT, 25),
-        (-MOST_WEIGHT, 25),
-        (i32::MAX, 32),
-        (i32::MIN, 32),
-    ];
-    for (weight, width) in expected {
-        assert_eq!(weight_width(&[weight]), width, "{weight}");
-        assert_eq!(weight_width(&[0, weight, 0]), width, "{weight}");
-    }
-    assert_eq!(weight_width(&[]), 0);
-    assert_eq!(weight_width(&[0, 0]), 0);
-    assert_eq!(weight_width(&[-2, 1]), 2);
-    assert_eq!(weight_width(&[-2, 2]), 3);
-}
-
-#[test]
-fn weight_widths_around_powers_of_two() {
-    for bit in 0..31 {
-        let power = 1_i64 << bit;
-        for near in power - 2..=power + 2 {
-            for weight in [near as i32, -near as i32] {
-                assert_eq!(weight_width(&[weight]), oracle::width(weight), "{weight}");
-            }
-        }
-    }
-}
-
-#[test]
 fn bounds_by_hand() {
     // The figure has no fall; its rises over 0 are seven single steps.
     assert_eq!(node_bound(4, &FIGURE, 0, 2), 4 + (1 + 1) + 6 * 2);
@@ -162,9 +123,12 @@ fn trap_blocks_share_by_differences() {
     assert_eq!(answer.nodes, 3);
 }
 
+/// The trap is left to cells with a negative weight.
 #[test]
 fn trap_width_of_4() {
-    assert_eq!(weight_width(&[4]), 4);
+    assert_eq!(weight_width(&[4, -1]), 4);
+    assert_eq!(weight_width(&[-1, 4]), 4);
+    assert_eq!(weight_width(&[4]), 3);
 }
 
 #[test]
@@ -174,6 +138,19 @@ fn a_tie_of_a_wide_first_group_and_fewer_cells() {
     let planned = plan(4, &cases::TIE, 4).unwrap();
     assert_eq!((planned.bits, two_cells), (40, 40));
     assert_eq!(planned.sizes, [2, 1, 1]);
+}
+
+/// By the older rule, with a bit for a sign in every cell, one cell costs least.
+#[test]
+fn unsigned_cells_can_move_the_choice() {
+    let table = [1, 3, 2, 1, 0, 3, 2, 2];
+    let cascade = Cascade::new(3, &table);
+    let groupings: [&[usize]; 4] = [&[3], &[2, 1], &[1, 2], &[1, 1, 1]];
+    let drafts = groupings.map(|sizes| cascade.draft(sizes));
+    assert_eq!(drafts.clone().map(|d| d.bits), [24, 40, 20, 44]);
+    assert_eq!(drafts.map(|d| d.older().bits), [24, 40, 28, 48]);
+    let planned = plan(3, &table, 3).unwrap();
+    assert_eq!((planned.sizes, planned.bits), (vec![1, 2], 20));
 }
 
 #[test]

@@ -198,11 +198,11 @@ fn word_operands() {
             Some(13)
         );
     }
-    for weight in [MOST_WEIGHT, -MOST_WEIGHT] {
+    for (weight, width) in [(MOST_WEIGHT, 24), (-MOST_WEIGHT, 25)] {
         let widest = changed(|d| {
             d.cells[0].words[3].1 = weight;
-            d.cells[0].width = 25;
-            d.bits = 4 * 26 + 20;
+            d.cells[0].width = width;
+            d.bits = 4 * (1 + u32::from(width)) + 8 + 4;
         });
         assert_eq!(refusal(&widest), None);
         assert_eq!(run(&widest, 15).map(|ran| ran.value), Ok(weight));
@@ -227,7 +227,7 @@ fn widths_are_judged_after_the_last_word() {
     let draft = figure_draft();
     let places = draft.command_places();
     let second_cell = places[6];
-    for width in (0..=255).filter(|&width| width != 4) {
+    for width in (0..=255).filter(|&width| width != 3) {
         let image = changed(|d| d.cells[0].width = width);
         assert_eq!(refusal(&image), Some(13));
         // While the words last, other refusals come first.
@@ -245,7 +245,7 @@ fn widths_are_judged_after_the_last_word() {
 
 #[test]
 fn totals() {
-    for bits in [0, 39, 41, u32::MAX, 1 << 31 | 40] {
+    for bits in [0, 27, 29, 40, u32::MAX, 1 << 31 | 28] {
         let image = changed(|d| d.bits = bits);
         assert_eq!(refusal(&image), Some(13));
         // A wrong total counts before bytes after it.
@@ -262,9 +262,9 @@ fn images_no_compiler_would_write_are_run() {
         cells: vec![
             DraftCell::new(1, 1, 3, 1, &[(2, 0), (0, -1)]),
             DraftCell::new(1, 3, 1, 0, &[(0, 0); 6]),
-            DraftCell::new(1, 1, 1, 3, &[(0, 0), (0, 3)]),
+            DraftCell::new(1, 1, 1, 2, &[(0, 0), (0, 3)]),
         ],
-        bits: 2 * 3 + 2 * 3,
+        bits: 2 * 3 + 2 * 2,
     };
     let mut table = [NUMBER; 8];
     assert_eq!(expand(&draft.bytes(), &mut table), Ok(()));

@@ -96,7 +96,7 @@ fn order() {
 fn small_listings() {
     assert_eq!(
         printed(&listing_input(1, 1, &[5, 8])),
-        "table 1 5\nnode 1 0 0 0 3\nnodes 2\ncell 1 1 1 3 6\nbits 6\n"
+        "table 1 5\nnode 1 0 0 0 3\nnodes 2\ncell 1 1 1 2 4\nbits 4\n"
     );
     assert_eq!(
         printed(&listing_input(2, 2, &[7; 4])),
@@ -105,6 +105,10 @@ fn small_listings() {
     assert_eq!(
         printed(&listing_input(1, 12, &[GREATEST, LEAST])),
         "table 1 8388607\nnode 1 0 0 0 -16777215\nnodes 2\ncell 1 1 1 25 50\nbits 50\n"
+    );
+    assert_eq!(
+        printed(&listing_input(1, 12, &[LEAST, GREATEST])),
+        "table 1 -8388608\nnode 1 0 0 0 16777215\nnodes 2\ncell 1 1 1 24 48\nbits 48\n"
     );
     assert_eq!(
         printed(&listing_input(1, 12, &[-3, -4])),
@@ -154,17 +158,33 @@ fn whole_listings() {
     }
 }
 
-/// The table of X itself: one record and one cell for each variable.
+/// The table of X itself: one record and one cell for each variable, with the
+/// weight 2^v, which is not negative.
 #[test]
 fn whole_listings_by_hand() {
     for n in 1..=11 {
         let node = |v: usize| format!("node {} {v} {v} {v} {}\n", v + 1, 1 << v);
-        let cell = |v: usize| format!("cell 1 1 1 {} {}\n", v + 2, 2 * (v + 2));
+        let cell = |v: usize| format!("cell 1 1 1 {} {}\n", v + 1, 2 * (v + 1));
         let nodes: String = (0..n).map(node).collect();
         let cells: String = (0..n).rev().map(cell).collect();
-        let (count, bits) = (n + 1, n * (n + 3));
+        let (count, bits) = (n + 1, n * (n + 1));
         let text = format!("table {n} 0\n{nodes}nodes {count}\n{cells}bits {bits}\n");
         let input = listing_input(n as u8, 12, &tables::of(n, |x| x as i32));
+        assert_eq!(printed(&input), text);
+    }
+}
+
+/// The table of -X: the weight -2^v has as many bits as 2^v without a sign.
+#[test]
+fn whole_listings_of_falling_tables_by_hand() {
+    for n in 1..=11 {
+        let node = |v: usize| format!("node {} {v} {v} {v} -{}\n", v + 1, 1 << v);
+        let cell = |v: usize| format!("cell 1 1 1 {} {}\n", v + 1, 2 * (v + 1));
+        let nodes: String = (0..n).map(node).collect();
+        let cells: String = (0..n).rev().map(cell).collect();
+        let (count, bits) = (n + 1, n * (n + 1));
+        let text = format!("table {n} 0\n{nodes}nodes {count}\n{cells}bits {bits}\n");
+        let input = listing_input(n as u8, 12, &tables::of(n, |x| -(x as i32)));
         assert_eq!(printed(&input), text);
     }
 }

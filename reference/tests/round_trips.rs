@@ -117,6 +117,57 @@ fn structured_tables() {
 }
 
 #[test]
+fn tables_by_signs() {
+    for n in 1..=12 {
+        for table in signs::all(n) {
+            check(n, &table);
+        }
+    }
+}
+
+/// The signs of a cell's weights: is some weight negative, is some positive?
+fn cell_signs(cell: &DraftCell) -> (bool, bool) {
+    let some = |holds: fn(i32) -> bool| cell.words.iter().any(|word| holds(word.1));
+    (some(|weight| weight < 0), some(|weight| weight > 0))
+}
+
+/// The chosen cells of the tables by signs have the signs that they should.
+#[test]
+fn signs_of_chosen_cells() {
+    let cells = |n: usize, table: &[i32]| {
+        let sizes = plan(n, table, 12).unwrap().sizes;
+        Cascade::new(n, table).draft(&sizes).cells
+    };
+    for n in 1..=12 {
+        for table in signs::rising(n) {
+            assert!(cells(n, &table).iter().all(|cell| !cell_signs(cell).0));
+        }
+        for table in signs::falling(n) {
+            assert!(cells(n, &table).iter().all(|cell| !cell_signs(cell).1));
+        }
+        let both_kinds = |table: &Vec<i32>| {
+            let signs: Vec<(bool, bool)> = cells(n, table).iter().map(cell_signs).collect();
+            signs.contains(&(false, true)) && signs.iter().any(|cell| cell.0)
+        };
+        let mixed = signs::mixed(n);
+        let count = mixed.iter().filter(|table| both_kinds(table)).count();
+        assert_eq!(count, [0, 4, 5, mixed.len()][n.min(4) - 1]);
+    }
+}
+
+#[test]
+fn tables_at_the_borders_of_widths() {
+    for (table, weight) in signs::pairs_at_borders().iter().zip(signs::borders()) {
+        let planned = plan(1, table, 1).unwrap();
+        assert_eq!(planned.cells[0].width, oracle::width([weight]));
+        check_groupings(1, table);
+    }
+    for table in signs::fours_at_borders() {
+        check_groupings(2, &table);
+    }
+}
+
+#[test]
 fn random_small_tables() {
     let mut random = Random(1);
     for n in 1..=7 {

@@ -19,18 +19,16 @@ fn round_trip(n: usize, table: &[i32]) {
     }
 }
 
-/// Document 000, example 3: the cascade of figure 6(b) has the same cells. Its
-/// weights are unsigned, so each of its words is one bit narrower.
+/// Document 000, example 3: the cascade of figure 6(b) has the same cells, and
+/// its weights are unsigned.
 #[test]
 fn segment_index_cascade() {
     round_trip(4, &FIGURE);
     let printed = [4 * 4, 4 * 2, 4];
     let planned = plan(4, &FIGURE, 4).unwrap();
-    assert_eq!(planned.cells.len(), printed.len());
-    for (cell, bits) in planned.cells.iter().zip(printed) {
-        assert_eq!(cell.bits, bits + 4);
-    }
-    assert_eq!(planned.bits, 28 + 3 * 4);
+    let bits: Vec<usize> = planned.cells.iter().map(|cell| cell.bits).collect();
+    assert_eq!(bits, printed);
+    assert_eq!(planned.bits, 28);
 }
 
 /// Document 002, table 1(a): the norm in quarters, rounded.

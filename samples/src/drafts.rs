@@ -1,7 +1,7 @@
 //! Images by hand: sound or not, pseudo-random ones that pass, and ways to
 //! damage one.
 
-use crate::oracle::{rail, width};
+use crate::oracle::{older_width, rail, width};
 use crate::{Random, GREATEST, LEAST, MOST_WEIGHT};
 
 /// An image by its operands, sound or not.
@@ -48,8 +48,34 @@ impl DraftCell {
 
     /// A cell with the least width of its weights.
     pub fn least(group: usize, incoming: usize, outgoing: usize, words: &[(u16, i32)]) -> Self {
-        let width = least_width(words);
-        DraftCell::new(group as u8, incoming as u16, outgoing as u16, width, words)
+        let mut cell = DraftCell::new(group as u8, incoming as u16, outgoing as u16, 0, words);
+        cell.width = cell.least_width();
+        cell
+    }
+
+    fn weights(&self) -> impl Iterator<Item = i32> + '_ {
+        self.words.iter().map(|word| word.1)
+    }
+
+    fn least_width(&self) -> u8 {
+        width(self.weights()) as u8
+    }
+
+    /// Widths that are not the least: an older image's, that of the weights
+    /// that are not negative, that of each weight by its own sign, one less and
+    /// one more.
+    pub fn other_widths(&self) -> Vec<u8> {
+        let least = self.least_width();
+        let without_negative = width(self.weights().filter(|&weight| weight >= 0));
+        let by_own_sign = self.weights().map(|weight| width([weight])).max();
+        let others = [
+            older_width(self.weights()) as u8,
+            without_negative as u8,
+            by_own_sign.unwrap_or(0) as u8,
+            least.wrapping_sub(1),
+            least + 1,
+        ];
+        others.into_iter().filter(|&other| other != least).collect()
     }
 }
 
@@ -84,6 +110,31 @@ impl Draft {
         bytes
     }
 
+    /// The older image with the same words: the weights of every cell are
+    /// signed.
+    pub fn older(&self) -> Draft {
+        let older = |cell: &DraftCell| DraftCell {
+            width: older_width(cell.weights()) as u8,
+            ..cell.clone()
+        };
+        let cells = self.cells.iter().map(older).collect();
+        Draft::new(self.n.into(), self.offset, cells)
+    }
+
+    /// The first cell that has weights above 0 and none below.
+    pub fn first_unsigned_cell(&self) -> Option<usize> {
+        let unsigned = |cell: &DraftCell| {
+            cell.weights().any(|weight| weight > 0) && cell.weights().all(|weight| weight >= 0)
+        };
+        self.cells.iter().position(unsigned)
+    }
+
+    /// The bytes up to the last word of a cell, with it.
+    pub fn bytes_with_cell(&self, place: usize) -> usize {
+        let cells = self.cells[..=place].iter();
+        6 + cells.map(|cell| 7 * (1 + cell.words.len())).sum::<usize>()
+    }
+
     /// Where the command bytes of `bytes` stand.
     pub fn command_places(&self) -> Vec<usize> {
         let mut places = vec![0];
@@ -108,11 +159,11 @@ pub fn figure_draft() -> Draft {
         n: 4,
         offset: 0,
         cells: vec![
-            cell(2, 1, 2, 4, &[(0, 0), (1, 1), (1, 4), (0, 7)]),
-            cell(1, 2, 2, 2, &[(0, 0), (0, 0), (0, 0), (1, 1)]),
-            cell(1, 2, 1, 2, &[(0, 0), (0, 0), (0, 0), (0, 1)]),
+            cell(2, 1, 2, 3, &[(0, 0), (1, 1), (1, 4), (0, 7)]),
+            cell(1, 2, 2, 1, &[(0, 0), (0, 0), (0, 0), (1, 1)]),
+            cell(1, 2, 1, 1, &[(0, 0), (0, 0), (0, 0), (0, 1)]),
         ],
-        bits: 40,
+        bits: 28,
     }
 }
 
@@ -138,23 +189,21 @@ pub fn passing(random: &mut Random) -> Draft {
     Draft::new(n, random.between(LEAST, GREATEST), cells)
 }
 
+/// A cell with weights of both signs, of one or of none.
 fn passing_cell(group: usize, incoming: usize, outgoing: usize, random: &mut Random) -> DraftCell {
     let most = [0, 1, 300, MOST_WEIGHT][random.below(4)];
+    let (least, greatest) = [(-most, most), (0, most), (-most, 0)][random.below(3)];
     let words = (0..incoming << group).map(|place| {
         let first = place & ((1 << group) - 1) == 0;
         let weight = if first {
             0
         } else {
-            random.between(-most, most)
+            random.between(least, greatest)
         };
         (random.below(outgoing) as u16, weight)
     });
     let words: Vec<(u16, i32)> = words.collect();
     DraftCell::least(group, incoming, outgoing, &words)
-}
-
-fn least_width(words: &[(u16, i32)]) -> u8 {
-    words.iter().map(|w| width(w.1) as u8).max().unwrap_or(0)
 }
 
 /// The total bits that the cells say.
@@ -170,15 +219,16 @@ pub fn damage(draft: &mut Draft, random: &mut Random) {
         return;
     }
     let place = random.below(draft.cells.len());
-    match random.below(6) {
+    match random.below(7) {
         0 => damage_cells(draft, place, random),
-        1 | 2 => damage_command(&mut draft.cells[place], random),
+        1 => damage_width(&mut draft.cells[place], random),
+        2 | 3 => damage_command(&mut draft.cells[place], random),
         _ => damage_words(&mut draft.cells[place], random),
     }
     if random.below(3) == 0 {
         let cell = random.below(draft.cells.len().max(1));
         if let Some(cell) = draft.cells.get_mut(cell) {
-            cell.width = least_width(&cell.words);
+            cell.width = cell.least_width();
         }
     }
     if random.below(2) == 0 {
@@ -208,22 +258,20 @@ fn damage_cells(draft: &mut Draft, place: usize, random: &mut Random) {
 }
 
 fn damage_command(cell: &mut DraftCell, random: &mut Random) {
-    match random.below(4) {
-        0 => cell.group = [0, 1, 12, 13, 32, 63, 64, 255, cell.group + 1][random.below(9)],
+    let groups = [0, 1, 12, 13, 32, 63, 64, 255, cell.group.wrapping_add(1)];
+    match random.below(3) {
+        0 => cell.group = groups[random.below(groups.len())],
         1 => cell.incoming = near_count(cell.incoming, random),
-        2 => cell.outgoing = near_count(cell.outgoing, random),
-        _ => {
-            cell.width = [
-                0,
-                1,
-                25,
-                26,
-                255,
-                cell.width.wrapping_sub(1),
-                cell.width + 1,
-            ][random.below(7)]
-        }
+        _ => cell.outgoing = near_count(cell.outgoing, random),
     }
+}
+
+fn damage_width(cell: &mut DraftCell, random: &mut Random) {
+    let mut widths = cell.other_widths();
+    if random.below(3) == 0 {
+        widths = vec![0, 1, 24, 25, 26, 255];
+    }
+    cell.width = widths[random.below(widths.len())];
 }
 
 fn near_count(count: u16, random: &mut Random) -> u16 {

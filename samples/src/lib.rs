@@ -6,6 +6,7 @@ pub mod cases;
 pub mod drafts;
 pub mod lists;
 pub mod oracle;
+pub mod signs;
 pub mod tables;
 
 pub use drafts::{figure_draft, Draft, DraftCell};

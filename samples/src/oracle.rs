@@ -64,13 +64,29 @@ pub fn rail(count: usize) -> usize {
     count.next_power_of_two().trailing_zeros() as usize
 }
 
-/// The two's-complement width of one weight.
-pub fn width(weight: i32) -> usize {
-    match weight {
-        0 => 0,
-        w if w < 0 => 33 - (!w).leading_zeros() as usize,
-        w => 33 - w.leading_zeros() as usize,
-    }
+/// The weight width of a cell: the bits of its longest weight, and one for the
+/// sign where some weight is negative.
+pub fn width(weights: impl IntoIterator<Item = i32>) -> usize {
+    let (least, greatest) = ends(weights);
+    bits(least).max(bits(greatest)) + usize::from(least < 0)
+}
+
+/// The weight width of a cell in an older image: the sign has a bit wherever
+/// some weight is not 0.
+pub fn older_width(weights: impl IntoIterator<Item = i32>) -> usize {
+    let (least, greatest) = ends(weights);
+    bits(least).max(bits(greatest)) + usize::from(least < greatest)
+}
+
+/// The least and the greatest of the weights and 0.
+fn ends(weights: impl IntoIterator<Item = i32>) -> (i32, i32) {
+    let join = |(least, greatest): (i32, i32), w: i32| (least.min(w), greatest.max(w));
+    weights.into_iter().fold((0, 0), join)
+}
+
+/// The bits of a weight beside its sign; of a negative one, its complement's.
+fn bits(weight: i32) -> usize {
+    32 - (weight ^ (weight >> 31)).leading_zeros() as usize
 }
 
 /// A table's cuts, for costs and images.
@@ -99,11 +115,8 @@ impl<'a> Cascade<'a> {
         let height = self.n - cut;
         let step = 1 << (height - group);
         let first = |x: usize| x >> height << height;
-        (0..1 << self.n)
-            .step_by(step)
-            .map(|x| width(self.table[x] - self.table[first(x)]))
-            .max()
-            .unwrap_or(0)
+        let sub_blocks = (0..1 << self.n).step_by(step);
+        width(sub_blocks.map(|x| self.table[x] - self.table[first(x)]))
     }
 
     pub fn cost(&self, cut: usize, group: usize) -> usize {

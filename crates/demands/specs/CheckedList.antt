@@ -8,7 +8,7 @@ use lib.IntN.{ℤ, pos, negℤ}
 use Rattle.numbers.specs.Answers.{Answer, accepted, refused, mapAnswer, andThen}
 use Rattle.numbers.specs.Lists.{numbersFrom, every, keep, tally, sumOf, leastFrom, least, padded}
 use Rattle.numbers.specs.Ranges.{mostVariables, widestAddress, isVariables, isLimit, within, isValue, eqZ}
-use Rattle.numbers.specs.Widths.{railWidth, holds, enough, weightWidth, cellBits}
+use Rattle.numbers.specs.Widths.{railWidth, holds, holdsUnsigned, enough, leastWidth, noneNegative, weightWidth, cellBits}
 use Rattle.blocks.specs.Blocks.{block, blocks, first, lowerHalf, upperHalf, differences}
 use Rattle.blocks.specs.Classes.{same, numberIn, learn, learnAll, distinct, classes, classCount, classOf, railAt}
 use Rattle.diagram.specs.Records.{branches, kinds, recordsBelow, node, recordOf, recordsAt, records, recordNumbers, recordSize, offset, nodeCount}
@@ -87,29 +87,29 @@ figure = map pos (0 ∷ 0 ∷ 0 ∷ 0 ∷ 1 ∷ 1 ∷ 2 ∷ 3 ∷ 4 ∷ 4 ∷ 5 
 -- The image of P4.
 smallImage : List ℕ
 smallImage =
-    0x56 ∷ 0x01 ∷ 0x00 ∷ 0x00 ∷ 0x00 ∷ 0x05 ∷ 0x43 ∷ 0x01 ∷ 0x00 ∷ 0x01 ∷ 0x00 ∷ 0x01 ∷ 0x03
+    0x56 ∷ 0x01 ∷ 0x00 ∷ 0x00 ∷ 0x00 ∷ 0x05 ∷ 0x43 ∷ 0x01 ∷ 0x00 ∷ 0x01 ∷ 0x00 ∷ 0x01 ∷ 0x02
     ∷ 0x57 ∷ 0x00 ∷ 0x00 ∷ 0x00 ∷ 0x00 ∷ 0x00 ∷ 0x00 ∷ 0x57 ∷ 0x00 ∷ 0x00 ∷ 0x00 ∷ 0x00 ∷ 0x00 ∷ 0x03
-    ∷ 0x45 ∷ 0x00 ∷ 0x00 ∷ 0x00 ∷ 0x06 ∷ []
+    ∷ 0x45 ∷ 0x00 ∷ 0x00 ∷ 0x00 ∷ 0x04 ∷ []
 
 cases : List Case
 cases =
     -- P1
     asks (textOf 4 4 figure)
-    (text "table 4 0\nnode 1 0 0 0 1\nnode 2 1 0 1 1\nnode 3 2 0 2 1\nnode 4 2 2 0 3\nnode 5 3 3 4 4\nnodes 6\ncell 2 1 2 4 20\ncell 1 2 2 2 12\ncell 1 2 1 2 8\nbits 40\n")
+    (text "table 4 0\nnode 1 0 0 0 1\nnode 2 1 0 1 1\nnode 3 2 0 2 1\nnode 4 2 2 0 3\nnode 5 3 3 4 4\nnodes 6\ncell 2 1 2 3 16\ncell 1 2 2 1 8\ncell 1 2 1 1 4\nbits 28\n")
     -- P2
     ∷ asks (planOf 4 2 figure)
-    (numbers (array 1 (2 ∷ 1 ∷ 1 ∷ []) ++ array 5 (2 ∷ 1 ∷ 2 ∷ 4 ∷ 20 ∷ 1 ∷ 2 ∷ 2 ∷ 2 ∷ 12 ∷ 1 ∷ 2 ∷ 1 ∷ 2 ∷ 8 ∷ []) ++ 3 ∷ 40 ∷ []))
+    (numbers (array 1 (2 ∷ 1 ∷ 1 ∷ []) ++ array 5 (2 ∷ 1 ∷ 2 ∷ 3 ∷ 16 ∷ 1 ∷ 2 ∷ 2 ∷ 1 ∷ 8 ∷ 1 ∷ 2 ∷ 1 ∷ 1 ∷ 4 ∷ []) ++ 3 ∷ 28 ∷ []))
     -- P3
     ∷ asks (planOf 4 1 figure) (refused 9)
     -- P4, with both buffer lengths, and a longer one
     ∷ asks (imageIn 1 1 (pos 5 ∷ pos 8 ∷ []) 31) (refused 10)
-    ∷ asks (imageIn 1 1 (pos 5 ∷ pos 8 ∷ []) 32) (numbers (32 ∷ 2 ∷ 1 ∷ 6 ∷ array 5 (1 ∷ 1 ∷ 1 ∷ 3 ∷ 6 ∷ []) ++ smallImage))
-    ∷ asks (imageIn 1 1 (pos 5 ∷ pos 8 ∷ []) 34) (numbers (32 ∷ 2 ∷ 1 ∷ 6 ∷ array 5 (1 ∷ 1 ∷ 1 ∷ 3 ∷ 6 ∷ []) ++ smallImage ++ 99 ∷ 99 ∷ []))
+    ∷ asks (imageIn 1 1 (pos 5 ∷ pos 8 ∷ []) 32) (numbers (32 ∷ 2 ∷ 1 ∷ 4 ∷ array 5 (1 ∷ 1 ∷ 1 ∷ 2 ∷ 4 ∷ []) ++ smallImage))
+    ∷ asks (imageIn 1 1 (pos 5 ∷ pos 8 ∷ []) 34) (numbers (32 ∷ 2 ∷ 1 ∷ 4 ∷ array 5 (1 ∷ 1 ∷ 1 ∷ 2 ∷ 4 ∷ []) ++ smallImage ++ 99 ∷ 99 ∷ []))
     -- P5 to P8
     ∷ asks (planOf 1 1 (pos 3 ∷ pos 2 ∷ [])) (numbers (oneCell (1 ∷ 1 ∷ 1 ∷ 1 ∷ 2 ∷ []) 2))
-    ∷ asks (planOf 1 1 (pos 2 ∷ pos 3 ∷ [])) (numbers (oneCell (1 ∷ 1 ∷ 1 ∷ 2 ∷ 4 ∷ []) 4))
+    ∷ asks (planOf 1 1 (pos 2 ∷ pos 3 ∷ [])) (numbers (oneCell (1 ∷ 1 ∷ 1 ∷ 1 ∷ 2 ∷ []) 2))
     ∷ asks (planOf 1 1 (pos 4 ∷ pos 2 ∷ [])) (numbers (oneCell (1 ∷ 1 ∷ 1 ∷ 2 ∷ 4 ∷ []) 4))
-    ∷ asks (planOf 1 1 (negℤ (pos 8388608) ∷ pos 8388607 ∷ [])) (numbers (oneCell (1 ∷ 1 ∷ 1 ∷ 25 ∷ 50 ∷ []) 50))
+    ∷ asks (planOf 1 1 (negℤ (pos 8388608) ∷ pos 8388607 ∷ [])) (numbers (oneCell (1 ∷ 1 ∷ 1 ∷ 24 ∷ 48 ∷ []) 48))
     -- P9
     ∷ asks (planOf 2 2 (map pos (7 ∷ 7 ∷ 7 ∷ 7 ∷ []))) (numbers (array 1 (2 ∷ []) ++ array 5 (2 ∷ 1 ∷ 1 ∷ 0 ∷ 0 ∷ []) ++ 1 ∷ 0 ∷ []))
     ∷ asks (nodesOf 2 2 (map pos (7 ∷ 7 ∷ 7 ∷ 7 ∷ []))) (numbers (1 ∷ 1 ∷ []))
@@ -119,5 +119,5 @@ cases =
 
 -- Every case's answer is the paper's.
 checked-values : map (λ c. answer (c .question)) cases ≡ map (λ c. c .expected) cases
-unfolding cases asks answer numbers text figure smallImage cellNumbers filled array oneCell numbersFrom every keep tally sumOf leastFrom least mostVariables widestAddress isVariables isLimit within isValue eqZ railWidth holds enough weightWidth cellBits block blocks first lowerHalf upperHalf differences same numberIn learn learnAll distinct classes classCount classOf railAt branches kinds recordsBelow node recordOf recordsAt records recordNumbers recordSize offset nodeCount ofTable nodeRoom build buildAnswer stepAt isJump jumps risingKinds nodeBound bigEndian signedBytes number unsignedAt signedAt bitsOf totalBits commandBytes wordCommand cellCommands cardCommands imageOf wordOf wordsOf cellOf cellsFrom cardFor descending closing groupingsWithin groupings addressWidth fitsFrom fits cost cheapest firstCheapest chosen plan planCell noCell entries sizeArray cellArray totals planAnswer imageFor compile report compileAnswer compileCells compileBuffer padded ascii decimalDigits decimal fields line mostListed isListed imageRoom tableOf listed shownNumbers nodeLine nodeLines cellLine tableText answerText listing flatMap
+unfolding cases asks answer numbers text figure smallImage cellNumbers filled array oneCell numbersFrom every keep tally sumOf leastFrom least mostVariables widestAddress isVariables isLimit within isValue eqZ railWidth holds holdsUnsigned enough leastWidth noneNegative weightWidth cellBits block blocks first lowerHalf upperHalf differences same numberIn learn learnAll distinct classes classCount classOf railAt branches kinds recordsBelow node recordOf recordsAt records recordNumbers recordSize offset nodeCount ofTable nodeRoom build buildAnswer stepAt isJump jumps risingKinds nodeBound bigEndian signedBytes number unsignedAt signedAt bitsOf totalBits commandBytes wordCommand cellCommands cardCommands imageOf wordOf wordsOf cellOf cellsFrom cardFor descending closing groupingsWithin groupings addressWidth fitsFrom fits cost cheapest firstCheapest chosen plan planCell noCell entries sizeArray cellArray totals planAnswer imageFor compile report compileAnswer compileCells compileBuffer padded ascii decimalDigits decimal fields line mostListed isListed imageRoom tableOf listed shownNumbers nodeLine nodeLines cellLine tableText answerText listing flatMap
 checked-values = refl

@@ -7,6 +7,7 @@ pub mod Due
 pub mod Evaluating
 pub mod Held
 pub mod Images
+pub mod OtherWidths
 pub mod Reading
 pub mod Refusals
 pub mod Rules

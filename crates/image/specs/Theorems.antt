@@ -1,19 +1,25 @@
 -- What holds of images, of Run and of Expand, for every image, card and X.
-use Prim.Native.Nat.{ℕ, _^_, _≤_, _<_}
-use mathlib.Core.Path.{_≡_, sym, _∙_}
-use mathlib.Core.List.{List, flatMap}
+use Prim.Native.Nat.{ℕ, suc, _^_, _≤_, _<_}
+use mathlib.Core.Path.{_≡_, sym, _∙_, ap}
+use mathlib.Core.Bool.{true, false}
+use mathlib.Core.List.{List, [], _∷_, _++_, flatMap}
 use mathlib.Core.Logic.{_↔_}
 use lib.ListN.{length, getD}
 use lib.IntN.{ℤ, pos}
+use lib.Signed.{ltZ}
 use Rattle.numbers.specs.Answers.{accepted, refused, mapAnswer}
+use Rattle.numbers.specs.Theorems.{unsigned-spares-one, signed-stays}
+use Rattle.numbers.specs.Widths.{weightWidth}
 use Rattle.operands.specs.Bytes.{AreBytes}
-use Rattle.image.specs.Cells.{Card}
+use Rattle.image.specs.Cells.{Cell, Card}
 use Rattle.image.specs.Commands.{commandBytes, cardCommands, imageOf, cardOf}
+use Rattle.image.specs.OlderWidths.{withWidth, olderWidth, olderCard, imageTo}
 use Rattle.image.specs.Reader.{reading}
 use Rattle.image.specs.Run.{runCard, run, cardValues, expand, expandBuffer}
-use Rattle.image.specs.WellFormed.{WellFormed}
+use Rattle.image.specs.WellFormed.{weights, WellFormed}
 use Rattle.image.specs.Laws.Cards.{card-of}
 use Rattle.image.specs.Laws.Images.{image-of-commands, commands-of-card, image-of-card, card-keeps}
+use Rattle.image.specs.Laws.OtherWidths.{other-width, older-image, older-stays}
 use Rattle.image.specs.Laws.Refusals.{OfImage, reading-number, run-refuses, expand-refuses, buffer-accepted, buffer-refused}
 use Rattle.image.specs.Laws.Running.{run-refused, expand-refused}
 use Rattle.image.specs.Laws.Words.{card-words, run-of-card, expand-entry}
@@ -95,3 +101,36 @@ card-run = image-run
 
 pub card-expand : (card : Card) → WellFormed card → expand (imageOf card) (2 ^ card .n) ≡ accepted (cardValues card)
 card-expand = image-expand
+
+-- ---- other widths
+
+-- A cell of a card that keeps the rules is refused with 13 where it is written with another width: after its last word, whatever bytes
+-- follow there.
+pub other-width-refused : (card : Card) → WellFormed card → (before : List Cell) (cell : Cell) (after : List Cell) → card .cells ≡ before ++ cell ∷ after → (width : ℕ) → width < 256 → (width ≡ cell .width → ⊥) → (rest : List ℕ) → reading (imageTo card (before ++ withWidth width cell ∷ []) ++ rest) ≡ refused 13
+other-width-refused = other-width
+
+-- By the older rule a cell with a negative weight had the width that it has, one without had one bit more unless its weights are all 0.
+module _ (cell : Cell) where
+  -- Its weights.
+  abbrev own : List ℤ
+  own = weights (cell .words)
+
+  pub older-width-same : (i : ℕ) → i < length own → ltZ (getD own i (pos 0)) (pos 0) ≡ true → olderWidth cell ≡ weightWidth own
+  unfolding olderWidth
+  older-width-same i inside negative = sym (signed-stays own i inside negative)
+
+  pub older-width-one-more : ((j : ℕ) → j < length own → ltZ (getD own j (pos 0)) (pos 0) ≡ false) → (weightWidth own ≡ 0 → ⊥) → olderWidth cell ≡ suc (weightWidth own)
+  unfolding olderWidth
+  older-width-one-more plain some = unsigned-spares-one own plain some
+
+-- An older image, in which some cell has another width by the older rule, is refused with 13, by Run at every X and by Expand.
+module _ (card : Card) (w : WellFormed card) (before : List Cell) (cell : Cell) (after : List Cell) (parts : card .cells ≡ before ++ cell ∷ after) (other : olderWidth cell ≡ cell .width → ⊥) where
+  pub older-run-refused : (x : ℕ) → run (imageOf (olderCard card)) x ≡ refused 13
+  older-run-refused x = run-refused (imageOf (olderCard card)) x 13 (older-image card w before cell after parts other)
+
+  pub older-expand-refused : (room : ℕ) → expand (imageOf (olderCard card)) room ≡ refused 13
+  older-expand-refused room = expand-refused (imageOf (olderCard card)) room 13 (older-image card w before cell after parts other)
+
+-- One in which none has is the card's own image.
+pub older-image-stays : (card : Card) → ((before : List Cell) (cell : Cell) (after : List Cell) → card .cells ≡ before ++ cell ∷ after → olderWidth cell ≡ cell .width) → imageOf (olderCard card) ≡ imageOf card
+older-image-stays card h = ap imageOf (older-stays card h)

@@ -21,19 +21,17 @@ pub fn rail_width(count: u32) -> usize
     bit_length(count - 1)
 }
 
-// The weight width of a cell, from its least and its greatest weight.
+// The weight width of a cell, from its least and its greatest weight: the bits of the greater magnitude, and one more for the sign
+// where a weight is negative.
 pub fn weight_width(least: i32, greatest: i32) -> usize
     ensures { λ r. ⌜ r ≡ weightWidth (least ∷ greatest ∷ []) ⌝ }
 {
     let low = numbers::magnitude(least);
     let high = numbers::magnitude(greatest);
-    if low < high {
-        return 1 + bit_length(high);
+    let bits = bit_length(if low < high { high } else { low });
+    if least < 0 || greatest < 0 {
+        1 + bits
+    } else {
+        bits
     }
-    if least == 0 {
-        if greatest == 0 {
-            return 0;
-        }
-    }
-    1 + bit_length(low)
 }

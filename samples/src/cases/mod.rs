@@ -4,18 +4,22 @@
 mod broken;
 mod calls;
 mod lists;
+mod older;
 mod passing;
 mod plans;
 mod refused;
 mod reports;
+mod widths;
 
 pub use broken::{broken_lists, BrokenList};
 pub use calls::{list_calls, wrong_inputs, wrong_parts, ListCall};
 pub use lists::{lists, List};
+pub use older::{older_images, OlderImage, OLDER_FALL, OLDER_PAIR};
 pub use passing::{passing_images, PassingImage};
 pub use plans::{chosen_plans, refused_plans, ChosenPlan, RefusedPlan};
 pub use refused::{refused_images, RefusedImage};
 pub use reports::{reports, Report};
+pub use widths::{weight_widths, WeightWidth};
 
 use crate::lists::Branch;
 use crate::{tables, FIGURE, GREATEST, LEAST, MOST_WEIGHT, RECORD};
@@ -32,7 +36,7 @@ pub const EXTREMES: [(i32, i32, i32); 2] = [
 
 /// A table over 4 variables for which the groupings 2, 1, 1 and 1, 3 both cost
 /// 40 bits, and no other that fits limit 4 costs less.
-pub const TIE: [i32; 16] = [0, 0, 0, 0, -2, -2, -2, -1, -3, -3, -3, -3, -5, -4, -5, -5];
+pub const TIE: [i32; 16] = [0, 0, 0, 0, -2, -2, -2, 0, -3, -3, -3, -3, -5, -3, -5, -5];
 
 /// The records of `FIGURE`.
 pub const FIGURE_RECORDS: [[i32; RECORD]; 5] = [
@@ -54,6 +58,15 @@ pub const FALL_AND_RISE_RECORDS: [[i32; RECORD]; 3] = [
     [0, 0, 0, -2, -2, 0],
     [0, 0, 0, 6, 0, 6],
     [1, 1, 2, -2, -2, 4],
+];
+
+/// The image of (5, 8).
+pub const PAIR_IMAGE: [u8; 32] = [
+    0x56, 1, 0, 0, 0, 5, //
+    0x43, 1, 0, 1, 0, 1, 2, //
+    0x57, 0, 0, 0, 0, 0, 0, //
+    0x57, 0, 0, 0, 0, 0, 3, //
+    0x45, 0, 0, 0, 4,
 ];
 
 /// A table and its records.

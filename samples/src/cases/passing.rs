@@ -47,7 +47,8 @@ pub fn passing_images() -> Vec<PassingImage> {
 /// Twelve weights as great as they can be, one in each cell.
 fn extreme_images() -> Vec<PassingImage> {
     let image = |(last, offset, weight)| {
-        let cell = DraftCell::new(1, 1, 1, 25, &[(0, 0), (0, weight)]);
+        let width = if weight < 0 { 25 } else { 24 };
+        let cell = DraftCell::new(1, 1, 1, width, &[(0, 0), (0, weight)]);
         let draft = Draft::new(12, offset, vec![cell; 12]);
         let value = |x: usize| offset + x.count_ones() as i32 * weight;
         assert_eq!(value(4_095), last);

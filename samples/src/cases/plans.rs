@@ -47,41 +47,102 @@ fn chosen(table: &[i32], limit: usize, cells: &[[usize; 5]]) -> ChosenPlan {
     }
 }
 
-/// The paper's checked values, then ties, wide cells and many classes.
 pub fn chosen_plans() -> Vec<ChosenPlan> {
-    let figure = [[2, 1, 2, 4, 20], [1, 2, 2, 2, 12], [1, 2, 1, 2, 8]];
-    let one = |table: [i32; 2], width: usize| chosen(&table, 1, &[[1, 1, 1, width, 2 * width]]);
-    let sum = tables::weighted_sum(0, &[1, 2, 3, 4, 5]);
-    let sum_cells = [4, 4, 3, 3, 2].map(|width| [1, 1, 1, width, 2 * width]);
+    let mut plans = checked_values();
+    plans.extend(plans_by_signs());
+    plans.extend(plans_with_ties());
+    plans.extend(plans_of_sums());
+    plans.extend([many_classes(), long_image()]);
+    plans
+}
+
+/// The paper's checked values, and pairs beside them.
+fn checked_values() -> Vec<ChosenPlan> {
+    let figure = [[2, 1, 2, 3, 16], [1, 2, 2, 1, 8], [1, 2, 1, 1, 4]];
+    let mut plans = vec![chosen(&FIGURE, 4, &figure), chosen(&FIGURE, 2, &figure)];
+    let pairs = [
+        ([5, 8], 2, 4),
+        ([3, 2], 1, 2),
+        ([2, 3], 1, 2),
+        ([4, 2], 2, 4),
+        ([LEAST, GREATEST], 24, 48),
+        ([GREATEST, LEAST], 25, 50),
+        ([0, 3], 2, 4),
+        ([0, 4], 3, 6),
+        ([4, 0], 3, 6),
+        ([5, 0], 4, 8),
+        ([7, 7], 0, 0),
+    ];
+    plans.extend(pairs.map(|(table, width, bits)| chosen(&table, 1, &[[1, 1, 1, width, bits]])));
+    plans.push(chosen(&[7; 4], 2, &[[2, 1, 1, 0, 0]]));
+    plans
+}
+
+/// Cells with a negative weight beside cells without.
+fn plans_by_signs() -> Vec<ChosenPlan> {
     vec![
-        chosen(&FIGURE, 4, &figure),
-        chosen(&FIGURE, 2, &figure),
-        one([5, 8], 3),
-        one([3, 2], 1),
-        one([2, 3], 2),
-        one([4, 2], 2),
-        one([LEAST, GREATEST], 25),
-        one([0, 4], 4),
-        chosen(&[7; 4], 2, &[[2, 1, 1, 0, 0]]),
+        chosen(&[0, 4, -1, 3], 2, &[[1, 1, 1, 1, 2], [1, 1, 1, 3, 6]]),
+        chosen(&[0, 4, 1, 5], 2, &[[1, 1, 1, 1, 2], [1, 1, 1, 3, 6]]),
+        // One negative weight makes the cell signed, so that 4 takes 4 bits. Two
+        // cells cost 2 * (1 + 1) + 4 * 3, which is as much.
+        chosen(&[0, 4, -1, 1], 2, &[[2, 1, 1, 4, 16]]),
+        // The lower cell is signed for one of its classes, and 4 is a weight of
+        // the other. One cell costs 4 * 10.
+        chosen(
+            &[0, 4, 1_000, 999],
+            2,
+            &[[1, 1, 2, 10, 22], [1, 2, 1, 4, 16]],
+        ),
+        // One cell costs 8 * 3. With a bit for a sign in the lower of two cells
+        // these would cost 4 + 8 * 3.
+        chosen(
+            &[1, 3, 2, 1, 0, 3, 2, 2],
+            3,
+            &[[1, 1, 2, 1, 4], [2, 2, 1, 2, 16]],
+        ),
+    ]
+}
+
+/// Of equal costs the widest first group is chosen.
+fn plans_with_ties() -> Vec<ChosenPlan> {
+    // The groupings 1, 2, 1 and 1, 1, 1, 1 cost 36 as well.
+    let three_ways = [0, 0, 0, 0, -2, -2, -2, -1, -3, -3, -3, -3, -5, -4, -5, -5];
+    vec![
         chosen(
             &TIE,
             4,
             &[[2, 1, 3, 4, 24], [1, 3, 2, 0, 8], [1, 2, 1, 2, 8]],
         ),
+        chosen(
+            &three_ways,
+            4,
+            &[[2, 1, 3, 4, 24], [1, 3, 2, 0, 8], [1, 2, 1, 1, 4]],
+        ),
         // One cell costs 4 * 3, two cost 2 * (1 + 1) + 4 * 2.
         chosen(&[0, 1, -1, -3], 2, &[[2, 1, 1, 3, 12]]),
-        chosen(&sum, 1, &sum_cells),
-        chosen(&sum, 12, &sum_cells),
-        many_classes(),
-        long_image(),
     ]
 }
 
-/// More than 256 classes at a chosen cut.
+/// One class at every cut, and one variable a cell.
+fn plans_of_sums() -> Vec<ChosenPlan> {
+    let sum = tables::weighted_sum(0, &[1, 2, 3, 4, 5]);
+    let cells = [3, 3, 2, 2, 1].map(|width| [1, 1, 1, width, 2 * width]);
+    let fall = tables::weighted_sum(0, &[-1, -2, -3, -4, -5]);
+    let fall_cells = [4, 3, 3, 2, 1].map(|width| [1, 1, 1, width, 2 * width]);
+    vec![
+        chosen(&sum, 1, &cells),
+        chosen(&sum, 12, &cells),
+        chosen(&fall, 1, &fall_cells),
+        chosen(&fall, 12, &fall_cells),
+    ]
+}
+
+/// More than 256 classes at a chosen cut; the lowest cell alone has negative
+/// weights.
 fn many_classes() -> ChosenPlan {
     let cells = [
-        [5, 1, 32, 24, 32 * (5 + 24)],
-        [4, 32, 300, 19, 512 * (9 + 19)],
+        [5, 1, 32, 23, 32 * (5 + 23)],
+        [4, 32, 300, 18, 512 * (9 + 18)],
         [3, 300, 1, 2, 4_096 * 2],
     ];
     chosen(&tables::many_classes(), 12, &cells)
@@ -90,7 +151,7 @@ fn many_classes() -> ChosenPlan {
 /// As long an image as a chosen grouping is known to have.
 fn long_image() -> ChosenPlan {
     let cells = [
-        [10, 1, 1_024, 25, 1_024 * (10 + 25)],
+        [10, 1, 1_024, 24, 1_024 * (10 + 24)],
         [2, 1_024, 1, 4, 4_096 * 4],
     ];
     chosen(&tables::long_image(), 12, &cells)

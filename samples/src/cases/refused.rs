@@ -22,6 +22,7 @@ impl RefusedImage {
 pub fn refused_images() -> Vec<RefusedImage> {
     let mut images = images_with_ends_out_of_range();
     images.extend(images_with_a_broken_command());
+    images.extend(images_with_a_wrong_width());
     images.extend(images_with_a_broken_word());
     images.extend(images_that_end_with_a_cell());
     images
@@ -54,14 +55,6 @@ fn two_variables() -> [DraftCell; 2] {
         DraftCell::least(1, 1, 2, &[(0, 0), (1, 3)]),
         DraftCell::least(1, 2, 1, &[(0, 0), (0, 1), (0, 0), (0, 2)]),
     ]
-}
-
-/// A sound cell but for its width.
-fn of_width(width: u8) -> DraftCell {
-    DraftCell {
-        width,
-        ..one_variable()
-    }
 }
 
 /// Cells that break one rule of their command. Words and total are as the
@@ -100,11 +93,41 @@ fn images_with_a_broken_command() -> Vec<RefusedImage> {
             2,
             vec![cell(1, 1, 4_096), cell(1, 4_096, 1)],
         ),
-        ("a width that is too great", 1, vec![of_width(4)]),
-        ("a width that is too small", 1, vec![of_width(2)]),
     ];
     let image = |(name, n, cells)| RefusedImage::new(name, Draft::new(n, 0, cells).bytes(), 13);
     images.into_iter().map(image).collect()
+}
+
+/// Cells that are sound but for their width, alone and below another cell. The
+/// total is as the widths ask.
+fn images_with_a_wrong_width() -> Vec<RefusedImage> {
+    let wrong: [(&str, [i32; 3], u8); 12] = [
+        ("a sign's bit beside no negative weight", [1, 4, 7], 4),
+        ("too few bits for 4", [1, 4, 7], 2),
+        ("too many bits for 3", [3, 0, 1], 3),
+        ("too few bits for 3", [3, 0, 1], 1),
+        ("no sign's bit beside 4 and -1", [4, -1, 1], 3),
+        ("too many bits for 4 and -1", [4, -1, 1], 5),
+        ("no sign's bit beside 3 and -4", [-4, 3, 0], 2),
+        ("as many bits as for 3", [-5, 3, 0], 3),
+        ("no bit where no weight is above 0", [-4, 0, -1], 0),
+        ("too few bits for -4", [-4, 0, -1], 2),
+        ("too many bits for -4", [-4, 0, -1], 4),
+        ("a sign's bit beside 0", [0, 0, 0], 1),
+    ];
+    let [upper, _] = two_variables();
+    let images = wrong.into_iter().flat_map(|(name, weights, width)| {
+        let [a, b, c] = weights.map(|weight| (0, weight));
+        let alone = DraftCell::new(2, 1, 1, width, &[(0, 0), a, b, c]);
+        let words = [(0, 0), a, (0, 0), (0, 0), (0, 0), (0, 0), b, c];
+        let below = DraftCell::new(2, 2, 1, width, &words);
+        [vec![alone], vec![upper.clone(), below]].map(|cells| {
+            let name = format!("{name}, in the last of {}", cells.len());
+            let image = Draft::new(1 + cells.len(), 0, cells).bytes();
+            RefusedImage::new(&name, image, 13)
+        })
+    });
+    images.collect()
 }
 
 /// Words that break one rule, in the only cell and in the last of two. Width

@@ -5,32 +5,28 @@ use mathlib.Core.Bool.{true}
 use mathlib.Core.List.{List, map}
 use native.Mathlib.Nat.{le-trans, mul-mod-left, mul-le-mul}
 use native.Mathlib.Omega.{arith}
-use lib.ListN.{length, getD, length-map}
+use lib.ListN.{length, getD}
 use lib.Dec.{leb}
 use lib.Pow.{pow-pos, pow-mono}
 use lib.IntN.{ℤ, pos}
-use lib.Signed.{mag}
-use borrow.Author.Tests.{leb-true, lt-ltb}
+use borrow.Author.Tests.{leb-true}
 use Rattle.numbers.specs.Ranges.{isVariables, isValue, isWeight, mostVariables, widestAddress}
-use Rattle.numbers.specs.Widths.{railWidth, weightWidth, holds, cellBits}
+use Rattle.numbers.specs.Widths.{railWidth, weightWidth, cellBits}
 use Rattle.numbers.specs.Laws.Bools.{both}
-use Rattle.numbers.specs.Laws.Bounds.{weight-mag}
-use Rattle.numbers.specs.Laws.Lists.{every-at, every-from, getD-map}
-use Rattle.numbers.specs.Laws.Widths.{rail-width-least, holds-suc, weight-width-least}
+use Rattle.numbers.specs.Laws.Lists.{every-at}
+use Rattle.numbers.specs.Laws.Widths.{rail-width-least}
 use Rattle.numbers.specs.Laws.Powers.{part-room}
 use Rattle.blocks.specs.Blocks.{first}
 use Rattle.blocks.specs.Classes.{classCount, railAt}
 use Rattle.blocks.specs.Laws.Classes.{class-below, class-count-le, one-class-at-top, one-class-at-bottom}
 use Rattle.image.specs.Cells.{Word, bitsOf}
 use Rattle.image.specs.Reader.{mostClasses}
+use Rattle.image.specs.WellFormed.{noWord, weights}
+use Rattle.image.specs.Laws.Held.{width-small}
 use Rattle.diagram.specs.Accepted.{Accepted}
 use Rattle.cascade.specs.Cascade.{wordsOf, cellOf, cardFor}
 use Rattle.cascade.specs.Groupings.{addressWidth}
 use Rattle.cascade.specs.Laws.Words.{words-count, word-class-below, word-weight-zero, word-weight-range}
-
--- A weight fits 25 bits.
-weight-held : (z : ℤ) → isWeight z ≡ true → holds 25 z ≡ true
-weight-held z h = holds-suc 24 z ∙ lt-ltb (mag z) (2 ^ 24) (let m = weight-mag z h in omega arith)
 
 -- ---- the cells of any table
 
@@ -139,16 +135,8 @@ module _ (n : ℕ) (table : List ℤ) (accepted : Accepted n table) where
 
     -- Its weights fit 25 bits.
     pub cell-width-most : cellOf n table h g .width ≤ 25
-    unfolding cellOf
-    cell-width-most =
-        weight-width-least (map (λ word. word .weight) (wordsOf n table h g)) 25
-        (every-from (holds 25) (map (λ word. word .weight) (wordsOf n table h g)) (pos 0) held)
-      where
-        held : (k : ℕ) → k < length (map (λ word. word .weight) (wordsOf n table h g)) → holds 25 (getD (map (λ word. word .weight) (wordsOf n table h g)) k (pos 0)) ≡ true
-        held k l =
-            let inside : k < length (wordsOf n table h g) = rw length-map at l in
-            ap (holds 25) (getD-map (λ word. word .weight) (wordsOf n table h g) k (record { class = 0; weight = pos 0 }) (pos 0) inside)
-            ∙ weight-held (getD (wordsOf n table h g) k (record { class = 0; weight = pos 0 }) .weight) (cell-weight-range k (record { class = 0; weight = pos 0 }) inside)
+    unfolding cellOf weights
+    cell-width-most = width-small (wordsOf n table h g) (λ k l. cell-weight-range k noWord l)
 
     -- Its memory bits are at most those of 4,096 words of 12 and 25 bits.
     pub cell-bits-most : bitsOf (cellOf n table h g) ≤ 4096 * (12 + 25)

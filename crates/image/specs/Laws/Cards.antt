@@ -62,10 +62,10 @@ start-due = due-table start refl
 
 -- The place after the table command, with the cells to come.
 module _ (n : ℕ) (offset : ℤ) where
-  abbrev first : Place
+  abbrev pub first : Place
   first = placeAfter start (Table n offset)
 
-  first-coming : isVariables n ≡ true → (below : List cells.Cell) → KeepsCells n 1 below → Coming first [] below
+  pub first-coming : isVariables n ≡ true → (below : List cells.Cell) → KeepsCells n 1 below → Coming first [] below
   unfolding placeAfter weights lowest highest
   first-coming v below k =
       let some = variables-most n v .0 in
@@ -75,7 +75,7 @@ module _ (n : ℕ) (offset : ℤ) where
   unfolding placeAfter coming
   first-commands below = ap (λ m. flatMap cellCommands below ++ End m ∷ []) (zero-add (totalBits below))
 
-table-may : (n : ℕ) (offset : ℤ) → isVariables n ≡ true → isValue offset ≡ true → May start (Table n offset)
+pub table-may : (n : ℕ) (offset : ℤ) → isVariables n ≡ true → isValue offset ≡ true → May start (Table n offset)
 unfolding kindOf keepsRules
 table-may n offset v o = record { width = start-width; allowed = start-due; rules = and-both (isVariables n) (isValue offset) v o }
 

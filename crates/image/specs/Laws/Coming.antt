@@ -95,11 +95,11 @@ keeps-turned : (outgoing u v : ℕ) (word : cells.Word) → (v ≡ 0 → u ≡ 0
 keeps-turned outgoing u v word h k = record { known = k .known; ranged = k .ranged; grounded = (λ e. k .grounded (h e)) }
 
 -- Where no word is left, the width is that of the extremes.
-width-here : (p : Place) → p .words ≡ 0 → widthIsLeast p ≡ eqb (p .width) (weightWidth (p .least ∷ p .greatest ∷ []))
+pub width-here : (p : Place) → p .words ≡ 0 → widthIsLeast p ≡ eqb (p .width) (weightWidth (p .least ∷ p .greatest ∷ []))
 unfolding widthIsLeast
 width-here p e = rw (le-ltb 0 (p .words) (omega arith))
 
-abbrev cellCommand : cells.Cell → Command
+abbrev pub cellCommand : cells.Cell → Command
 cellCommand cell = Cell (cell .group) (cell .incoming) (cell .outgoing) (cell .width)
 
 module _ (p : Place) (cell : cells.Cell) (below : List cells.Cell) where

@@ -9,12 +9,12 @@ use lib.ListN.{length, getD, length-map}
 use lib.IntN.{pos}
 use lib.Signed.{mag}
 use borrow.Author.Tests.{lt-ltb}
-use Rattle.numbers.specs.Lists.{sumOf}
+use Rattle.numbers.specs.Lists.{every, sumOf}
 use Rattle.numbers.specs.Ranges.{isWeight, mostVariables}
-use Rattle.numbers.specs.Widths.{holds, weightWidth}
+use Rattle.numbers.specs.Widths.{holds, leastWidth, weightWidth}
+use Rattle.numbers.specs.Laws.BitLength.{weight-width-most, signed-width-most}
 use Rattle.numbers.specs.Laws.Bounds.{value-mag, weight-mag}
 use Rattle.numbers.specs.Laws.Lists.{every-from, getD-map}
-use Rattle.numbers.specs.Laws.Widths.{holds-suc, weight-width-least}
 use Rattle.image.specs.Inner.Bounds.{CellFits, mostBits}
 use Rattle.image.specs.Cells as cells
 use Rattle.image.specs.Cells.{Card, bitsOf, totalBits}
@@ -28,20 +28,23 @@ use Rattle.image.specs.declared.Command.the-variants.{Cell, Word, End}
 
 -- ---- widths
 
--- No weight needs more than 25 bits.
-pub width-small : (words : List cells.Word) → ((j : ℕ) → j < length words → isWeight (getD words j noWord .weight) ≡ true) → weightWidth (weights words) ≤ 25
+ranged-weights : (words : List cells.Word) → ((j : ℕ) → j < length words → isWeight (getD words j noWord .weight) ≡ true) → every isWeight (weights words) ≡ true
 unfolding weights
-width-small words h =
-    weight-width-least (weights words) 25
-    (every-from (holds 25) (weights words) (pos 0)
+ranged-weights words h =
+    every-from isWeight (weights words) (pos 0)
     (λ j l. let inside : j < length words = rw (length-map words (λ word. word .weight)) at l in
-    ap (holds 25) (getD-map (λ word. word .weight) words j noWord (pos 0) inside)
-    ∙ holds-suc 24 (getD words j noWord .weight)
-    ∙ lt-ltb (mag (getD words j noWord .weight)) (2 ^ 24) (let m = weight-mag (getD words j noWord .weight) (h j inside) in omega arith)))
+    ap isWeight (getD-map (λ word. word .weight) words j noWord (pos 0) inside) ∙ h j inside)
+
+-- No cell needs more than 25 bits for its weights, nor would any in two's complement.
+pub width-small : (words : List cells.Word) → ((j : ℕ) → j < length words → isWeight (getD words j noWord .weight) ≡ true) → weightWidth (weights words) ≤ 25
+width-small words h = weight-width-most (weights words) (ranged-weights words h)
+
+pub signed-small : (words : List cells.Word) → ((j : ℕ) → j < length words → isWeight (getD words j noWord .weight) ≡ true) → leastWidth holds (weights words) ≤ 25
+signed-small words h = signed-width-most (weights words) (ranged-weights words h)
 
 -- ---- commands
 
-all-append : (a b : List Command) → AllHold a → AllHold b → AllHold (a ++ b)
+pub all-append : (a b : List Command) → AllHold a → AllHold b → AllHold (a ++ b)
 unfolding AllHold
 all-append [] b h k = k
 all-append (c ∷ a) b h k = (h .0, all-append a b (h .1) k)
@@ -64,7 +67,7 @@ module _ (left classes : ℕ) (cell : cells.Cell) (k : KeepsCell left classes ce
   pub cell-of : classes ≤ mostClasses → CellFits (cell .incoming) (cell .group) (cell .outgoing) (cell .width)
   cell-of h = record { address = k .shape .address; entering = (let e = k .shape .joined in omega arith); leaving = k .shape .most; narrow = cell-width }
 
-  cell-holds : left ≤ mostVariables → classes ≤ mostClasses → AllHold (cellCommands cell)
+  pub cell-holds : left ≤ mostVariables → classes ≤ mostClasses → AllHold (cellCommands cell)
   unfolding AllHold Holds cellCommands mostVariables mostClasses
   cell-holds l h =
       let inside = k .shape .inside in

@@ -66,7 +66,7 @@ unfoldable pub AllHold : List Command → Type 0
 AllHold [] = Unit {0}
 AllHold (c ∷ commands) = Holds c × AllHold commands
 
-length-bytes : (c : Command) → length (commandBytes c) ≡ dueSize (kindOf c)
+pub length-bytes : (c : Command) → length (commandBytes c) ≡ dueSize (kindOf c)
 unfolding commandBytes dueSize kindOf signedBytes
 length-bytes (Table n offset) = rw (length-append (bigEndian 1 n) (signedBytes offset), length-bigEndian 1 n, length-bigEndian 4 (ofZ w32 offset))
 length-bytes (Cell group incoming outgoing width) =
@@ -75,7 +75,7 @@ length-bytes (Word class weight) = rw (length-append (bigEndian 2 class) (signed
 length-bytes (End bits) = rw (length-bigEndian 4 bits)
 
 -- A command whose bytes are next in an image stands there.
-bytes-stand : (image : List ℕ) (at : ℕ) (c : Command) (rest : List ℕ) → Holds c → at + dueSize (kindOf c) ≤ length image → drop at image ≡ commandBytes c ++ rest → Stands image at c × (drop (at + dueSize (kindOf c)) image ≡ rest)
+pub bytes-stand : (image : List ℕ) (at : ℕ) (c : Command) (rest : List ℕ) → Holds c → at + dueSize (kindOf c) ≤ length image → drop at image ≡ commandBytes c ++ rest → Stands image at c × (drop (at + dueSize (kindOf c)) image ≡ rest)
 unfolding Holds commandBytes commandAt kindOf dueByte dueSize
 bytes-stand image at (Table n offset) rest h room e =
     let first = byte-here image at 0x56 (bigEndian 1 n ++ (signedBytes offset ++ rest)) (e ∙ ap (λ l. 0x56 ∷ l) (append-assoc (bigEndian 1 n) (signedBytes offset) rest)) in

@@ -121,7 +121,7 @@ reading-parts (suc steps) image p commands h = by-step image p (readFrom steps i
 -- ---- from commands to their reading
 
 -- A command that is allowed and stands at a place is read there.
-step-back : (image : List ℕ) (p : Place) (c : Command) → May p c → Stands image (p .at) c → endsWell image p c ≡ true → step image p ≡ accepted (c, placeAfter p c)
+pub step-back : (image : List ℕ) (p : Place) (c : Command) → May p c → Stands image (p .at) c → endsWell image p c ≡ true → step image p ≡ accepted (c, placeAfter p c)
 step-back image p c m s e =
     let is-command : commandAt (due p) image (p .at) ≡ c = ap (λ d. commandAt d image (p .at)) (m .allowed) ∙ s .operands in
     let room : p .at + dueSize (due p) ≤ length image = subst (λ d. p .at + dueSize d ≤ length image) (sym (m .allowed)) (s .room) in

@@ -1,25 +1,30 @@
 -- The length of a number in bits: the least, what leading zeros leave, and what both widths come down to.
-use Prim.Native.Nat.{ℕ, zero, suc, _+_, _-_, _*_, _^_, _≤_, _<_}
-use mathlib.Core.Path.{_≡_, refl, sym, _∙_}
-use mathlib.Core.Bool.{true}
-use mathlib.Core.List.{[], _∷_}
+use Prim.Native.Nat.{ℕ, zero, suc, _+_, _-_, _*_, _^_, _≤_, _<_, max}
+use mathlib.Core.Path.{_≡_, refl, sym, _∙_, ap}
+use mathlib.Core.Logic.{_↔_}
+use mathlib.Core.Bool.{Bool, true, false, false≢true, true≢false, not, _||_}
+use mathlib.Core.List.{List, [], _∷_}
 use native.Mathlib.Nat.{le-antisymm, two-pow-succ}
 use native.Mathlib.Decide.{decLt}
 use native.Mathlib.Omega.{arith}
 use lib.Count.{leadingZeros, leading-length}
 use lib.Dec.{ltb}
-use lib.Pow.{pow-mono}
-use lib.IntN.{ℤ, pos}
-use lib.Signed.{mag}
-use borrow.Author.Tests.{ltb-true, lt-ltb}
+use lib.ListN.{length, getD}
+use lib.Pow.{pow-mono, pow-pos}
+use lib.IntN.{ℤ, pos, negsuc}
+use lib.Signed.{mag, ltZ, nonNeg}
+use borrow.Author.Tests.{ltb-true, lt-ltb, le-ltb}
 use Rattle.numbers.specs.Lists.{every}
-use Rattle.numbers.specs.Inner.Bits.{bitLength}
-use Rattle.numbers.specs.Widths.{railWidth, holds, weightWidth}
-use Rattle.numbers.specs.Laws.Bools.{both, and-both}
+use Rattle.numbers.specs.Inner.Bits.{bitLength, greatestMagnitude}
+use Rattle.numbers.specs.Ranges.{isWeight}
+use Rattle.numbers.specs.Widths.{railWidth, holds, holdsUnsigned, leastWidth, noneNegative, weightWidth}
+use Rattle.numbers.specs.Laws.Bools.{yes-or-no, both, and-both}
+use Rattle.numbers.specs.Laws.Bounds.{weight-mag}
 use Rattle.numbers.specs.Laws.Integers.{eqZ-true}
 use Rattle.numbers.specs.Laws.Least.{least-passes, least-le}
+use Rattle.numbers.specs.Laws.Lists.{every-at, every-from}
 use Rattle.numbers.specs.Laws.Powers.{below-power}
-use Rattle.numbers.specs.Laws.Widths.{rail-width-tells, rail-width-least, holds-suc, weight-width-holds, weight-width-least}
+use Rattle.numbers.specs.Laws.Widths.{rail-width-tells, rail-width-least, holds-suc, holds-enough, least-width-holds, least-width-le, signed-width, unsigned-width-holds, unsigned-width-least}
 
 pub bit-length-holds : (a : ℕ) → a < 2 ^ bitLength a
 unfolding bitLength
@@ -51,26 +56,99 @@ rail-width-bits a =
     (rail-width-least (suc a) (bitLength a) (bit-length-holds a))
     (bit-length-least a (railWidth (suc a)) (rail-width-tells (suc a)))
 
--- The width of two weights that are not both 0 is one more than the length of the greater magnitude, m.
-module _ (low high : ℤ) (m : ℕ) (is-low : mag low ≤ m) (is-high : mag high ≤ m) where
-  pub pair-width : ((k : ℕ) → mag low < k → mag high < k → m < k) → (low ≡ pos 0 → high ≡ pos 0 → ⊥) → weightWidth (low ∷ high ∷ []) ≡ suc (bitLength m)
-  unfolding every holds
-  pair-width one-of nonzero =
-      le-antisymm
-      (weight-width-least (low ∷ high ∷ []) (suc (bitLength m))
-      (and-both (holds (suc (bitLength m)) low) (every (holds (suc (bitLength m))) (high ∷ [])) (held low is-low) (and-both (holds (suc (bitLength m)) high) true (held high is-high) refl)))
-      (at-least (weightWidth (low ∷ high ∷ [])) (weight-width-holds (low ∷ high ∷ [])))
-    where
-      held : (z : ℤ) → mag z ≤ m → holds (suc (bitLength m)) z ≡ true
-      held z h = holds-suc (bitLength m) z ∙ lt-ltb (mag z) (2 ^ bitLength m) (let p = bit-length-holds m in omega arith)
+-- ---- the weight width, by the greatest magnitude
 
-      at-least : (w : ℕ) → every (holds w) (low ∷ high ∷ []) ≡ true → suc (bitLength m) ≤ w
-      at-least zero h =
-          let parts = both (holds zero low) (every (holds zero) (high ∷ [])) h in
-          absurd (nonzero (eqZ-true low (pos 0) (parts .0)) (eqZ-true high (pos 0) (both (holds zero high) true (parts .1) .0)))
-      at-least (suc v) h =
-          let parts = both (holds (suc v) low) (every (holds (suc v)) (high ∷ [])) h in
-          let l = ltb-true (mag low) (2 ^ v) (sym (holds-suc v low) ∙ parts .0) in
-          let r = ltb-true (mag high) (2 ^ v) (sym (holds-suc v high) ∙ both (holds (suc v) high) true (parts .1) .0) in
-          let b = bit-length-least m v (one-of (2 ^ v) l r) in
-          omega arith
+-- A test of magnitudes holds of every weight exactly where it holds of the greatest.
+all-below : (test : ℤ → Bool) (k : ℕ) → 0 < k → (weights : List ℤ) → ((j : ℕ) → j < length weights → test (getD weights j (pos 0)) ≡ ltb (mag (getD weights j (pos 0))) k) → (every test weights ≡ true) ↔ (greatestMagnitude weights < k)
+unfolding every greatestMagnitude
+all-below test k some [] tells = ((λ h. some), (λ h. refl))
+all-below test k some (z ∷ weights) tells =
+    let rest = all-below test k some weights (λ j l. tells (suc j) (omega arith)) in
+    let here = tells 0 (omega arith) in (
+      (λ h.
+          let parts = both (test z) (every test weights) h in
+          let a = ltb-true (mag z) k (sym here ∙ parts .0) in
+          let b = rest .0 (parts .1) in
+          omega arith),
+      (λ h. and-both (test z) (every test weights) (here ∙ lt-ltb (mag z) k (omega arith)) (rest .1 (omega arith))),
+    )
+
+-- Without a sign a weight that is not negative is held by its magnitude.
+below-magnitude : (a : ℕ) (z : ℤ) → nonNeg z ≡ true → holdsUnsigned a z ≡ ltb (mag z) (2 ^ a)
+unfolding holdsUnsigned
+below-magnitude a (pos m) plain = refl
+below-magnitude a (negsuc m) plain = absurd (false≢true plain)
+
+module _ (weights : List ℤ) where
+  signed-held : (a : ℕ) → (every (holds (suc a)) weights ≡ true) ↔ (greatestMagnitude weights < 2 ^ a)
+  signed-held a = all-below (holds (suc a)) (2 ^ a) (pow-pos a) weights (λ j l. holds-suc a (getD weights j (pos 0)))
+
+  unsigned-held : noneNegative weights ≡ true → (a : ℕ) → (every (holdsUnsigned a) weights ≡ true) ↔ (greatestMagnitude weights < 2 ^ a)
+  unfolding noneNegative
+  unsigned-held plain a = all-below (holdsUnsigned a) (2 ^ a) (pow-pos a) weights (λ j l. below-magnitude a (getD weights j (pos 0)) (every-at nonNeg weights (pos 0) plain j l))
+
+  -- Without a negative weight it is the length of the greatest magnitude.
+  pub unsigned-length : noneNegative weights ≡ true → weightWidth weights ≡ bitLength (greatestMagnitude weights)
+  unsigned-length plain =
+      let most = greatestMagnitude weights in
+      le-antisymm
+      (unsigned-width-least weights plain (bitLength most) (unsigned-held plain (bitLength most) .1 (bit-length-holds most)))
+      (bit-length-least most (weightWidth weights) (unsigned-held plain (weightWidth weights) .0 (unsigned-width-holds weights plain)))
+
+  -- In two's complement weights that are not all 0 have one bit more.
+  pub complement-length : (every (holds 0) weights ≡ true → ⊥) → leastWidth holds weights ≡ suc (bitLength (greatestMagnitude weights))
+  complement-length some =
+      let most = greatestMagnitude weights in
+      le-antisymm
+      (least-width-le holds weights (suc (bitLength most)) (signed-held (bitLength most) .1 (bit-length-holds most)))
+      (at-least (leastWidth holds weights) (least-width-holds holds holds-enough weights))
+    where
+      at-least : (w : ℕ) → every (holds w) weights ≡ true → suc (bitLength (greatestMagnitude weights)) ≤ w
+      at-least zero h = absurd (some h)
+      at-least (suc v) h = let b = bit-length-least (greatestMagnitude weights) v (signed-held v .0 h) in omega arith
+
+  -- With a negative weight it is that.
+  pub signed-length : noneNegative weights ≡ false → weightWidth weights ≡ suc (bitLength (greatestMagnitude weights))
+  unfolding holds noneNegative
+  signed-length signed =
+      signed-width weights signed
+      ∙ complement-length
+      (λ h.
+      true≢false
+      (sym (every-from nonNeg weights (pos 0) (λ j l. ap nonNeg (eqZ-true (getD weights j (pos 0)) (pos 0) (every-at (holds zero) weights (pos 0) h j l)))) ∙ signed))
+
+  -- Weights of magnitudes below 2^a have at most a + 1 bits.
+  pub weight-width-within : (a : ℕ) → greatestMagnitude weights < 2 ^ a → weightWidth weights ≤ suc a
+  weight-width-within a h =
+      let b = bit-length-least (greatestMagnitude weights) a h in
+      yes-or-no (noneNegative weights)
+      (λ plain. let w = unsigned-length plain in omega arith)
+      (λ signed. let w = signed-length signed in omega arith)
+
+-- The magnitudes of weights in range are below 2^24.
+magnitudes-small : (weights : List ℤ) → every isWeight weights ≡ true → greatestMagnitude weights < 2 ^ 24
+magnitudes-small weights h =
+    all-below (λ z. ltb (mag z) (2 ^ 24)) (2 ^ 24) (pow-pos 24) weights (λ j l. refl) .0
+    (every-from (λ z. ltb (mag z) (2 ^ 24)) weights (pos 0)
+    (λ j l. lt-ltb (mag (getD weights j (pos 0))) (2 ^ 24) (let m = weight-mag (getD weights j (pos 0)) (every-at isWeight weights (pos 0) h j l) in omega arith)))
+
+-- No cell has a weight width of more than 25, nor would any in two's complement.
+pub weight-width-most : (weights : List ℤ) → every isWeight weights ≡ true → weightWidth weights ≤ 25
+weight-width-most weights h = weight-width-within weights 24 (magnitudes-small weights h)
+
+pub signed-width-most : (weights : List ℤ) → every isWeight weights ≡ true → leastWidth holds weights ≤ 25
+signed-width-most weights h = least-width-le holds weights 25 (signed-held weights 24 .1 (magnitudes-small weights h))
+
+-- ---- two weights
+
+-- Neither is negative exactly where both tests for it fail.
+pub pair-sign : (low high : ℤ) → noneNegative (low ∷ high ∷ []) ≡ not (ltZ low (pos 0) || ltZ high (pos 0))
+unfolding noneNegative every
+pair-sign (pos a) (pos b) = rw (le-ltb a 0 (omega arith), le-ltb b 0 (omega arith))
+pair-sign (pos a) (negsuc b) = rw (le-ltb a 0 (omega arith))
+pair-sign (negsuc a) high = refl
+
+-- The greater of two magnitudes is the greatest.
+pub pair-magnitude : (low high : ℤ) → max (mag low) (mag high) ≡ greatestMagnitude (low ∷ high ∷ [])
+unfolding greatestMagnitude
+pair-magnitude low high = omega arith

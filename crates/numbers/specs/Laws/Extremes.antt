@@ -1,21 +1,21 @@
 -- The least and the greatest weight decide the weight width of a whole cell.
-use Prim.Native.Nat.{ℕ, zero, suc, _^_, _<_}
+use Prim.Native.Nat.{ℕ, suc, _≤_, _<_, max}
 use mathlib.Core.Path.{_≡_, refl, sym, _∙_, ap}
-use mathlib.Core.Bool.{Bool, true, false, false≢true}
+use mathlib.Core.Bool.{true, false, false≢true, _&&_, and-assoc}
 use mathlib.Core.List.{List, [], _∷_, _++_}
 use native.Mathlib.Nat.{le-antisymm}
 use native.Mathlib.Omega.{arith}
-use lib.Pow.{pow-pos}
+use lib.Dec.{leb}
 use lib.IntN.{ℤ, pos, negsuc}
-use lib.Signed.{mag, leZ}
-use borrow.Author.Tests.{leb-true, leb-false, le-leb, ltb-true, lt-ltb}
+use lib.Signed.{mag, leZ, nonNeg}
+use borrow.Author.Tests.{leb-true, leb-false, le-leb}
+use Rattle.numbers.specs.Inner.Bits.{bitLength, greatestMagnitude}
 use Rattle.numbers.specs.Lists.{every}
-use Rattle.numbers.specs.Ranges.{eqZ, lesser, greater}
+use Rattle.numbers.specs.Ranges.{lesser, greater}
 use Rattle.numbers.specs.Extremes.{lowest, highest}
-use Rattle.numbers.specs.Widths.{holds, weightWidth}
-use Rattle.numbers.specs.Laws.Bools.{yes-or-no, both, and-both}
-use Rattle.numbers.specs.Laws.Integers.{eqZ-true, eqZ-refl}
-use Rattle.numbers.specs.Laws.Widths.{holds-suc, weight-width-holds, weight-width-least}
+use Rattle.numbers.specs.Widths.{noneNegative, weightWidth}
+use Rattle.numbers.specs.Laws.BitLength.{unsigned-length, signed-length}
+use Rattle.numbers.specs.Laws.Bools.{yes-or-no}
 
 -- ---- the order of integers, as a test
 
@@ -96,69 +96,62 @@ greater-one-of P a b p q = yes-or-no (leZ a b) (λ e. rw e q) (λ e. rw e p)
 
 -- ---- widths
 
--- A width that holds two numbers holds what lies between them.
-pub holds-between : (a : ℕ) (l z h : ℤ) → leZ l z ≡ true → leZ z h ≡ true → holds a l ≡ true → holds a h ≡ true → holds a z ≡ true
-unfolding holds
-holds-between zero l z h p q hl hh =
-    let is-l = eqZ-true l (pos 0) hl in
-    let is-h = eqZ-true h (pos 0) hh in
-    ap (λ y. eqZ y (pos 0)) (leZ-antisym z (pos 0) (rw is-h at q) (rw is-l at p)) ∙ eqZ-refl (pos 0)
-holds-between (suc a) l z h p q hl hh =
-    holds-suc a z
-    ∙ lt-ltb (mag z) (2 ^ a)
-    (mag-between l z h (2 ^ a) p q (ltb-true (mag l) (2 ^ a) (sym (holds-suc a l) ∙ hl)) (ltb-true (mag h) (2 ^ a) (sym (holds-suc a h) ∙ hh)))
+-- The lesser of two is not negative exactly where neither is.
+lesser-sign : (a b : ℤ) → nonNeg (lesser a b) ≡ (nonNeg a && nonNeg b)
+unfolding lesser
+lesser-sign (pos a) (pos b) = yes-or-no (leb a b) (λ e. rw e) (λ e. rw e)
+lesser-sign (pos a) (negsuc b) = refl
+lesser-sign (negsuc a) (pos b) = refl
+lesser-sign (negsuc a) (negsuc b) = yes-or-no (leb b a) (λ e. rw e) (λ e. rw e)
 
--- A width that holds the extremes holds them and all weights on the way.
-extremes-hold : (a : ℕ) (low high : ℤ) (weights : List ℤ) → leZ low high ≡ true → holds a (lowest low weights) ≡ true → holds a (highest high weights) ≡ true → (holds a low ≡ true) × ((holds a high ≡ true) × (every (holds a) weights ≡ true))
-unfolding lowest highest every
-extremes-hold a low high [] o hl hh = (hl, (hh, refl))
-extremes-hold a low high (z ∷ weights) o hl hh =
-    let inner = extremes-hold a (lesser low z) (greater high z) weights (leZ-trans (lesser low z) low (greater high z) (lesser-left low z) (leZ-trans low high (greater high z) o (greater-left high z))) hl hh in
-    let between : (y : ℤ) → leZ (lesser low z) y ≡ true → leZ y (greater high z) ≡ true → holds a y ≡ true = (λ y p q. holds-between a (lesser low z) y (greater high z) p q (inner .0) (inner .1 .0)) in (
-      between low (lesser-left low z) (leZ-trans low high (greater high z) o (greater-left high z)),
-      (
-        between high (leZ-trans (lesser low z) low high (lesser-left low z) o) (greater-left high z),
-        and-both (holds a z) (every (holds a) weights) (between z (lesser-right low z) (greater-right high z)) (inner .1 .1),
-      ),
-    )
+-- What is greater than a number that is not negative is not negative.
+greater-sign : (a b : ℤ) → nonNeg a ≡ true → nonNeg (greater a b) ≡ true
+unfolding greater
+greater-sign (pos a) (pos b) h = yes-or-no (leb a b) (λ e. rw e) (λ e. rw e)
+greater-sign (pos a) (negsuc b) h = refl
+greater-sign (negsuc a) b h = absurd (false≢true h)
 
-lowest-one-of : (P : ℤ → Type 0) (low : ℤ) (weights : List ℤ) (test : ℤ → Bool) → ((z : ℤ) → test z ≡ true → P z) → P low → every test weights ≡ true → P (lowest low weights)
-unfolding lowest every
-lowest-one-of P low [] test f p h = p
-lowest-one-of P low (z ∷ weights) test f p h =
-    let parts = both (test z) (every test weights) h in lowest-one-of P (lesser low z) weights test f (lesser-one-of P low z p (f z (parts .0))) (parts .1)
+-- Neither extreme is negative exactly where no weight is.
+extremes-sign : (low high : ℤ) (weights : List ℤ) → nonNeg high ≡ true → (nonNeg (lowest low weights) && (nonNeg (highest high weights) && true)) ≡ (nonNeg low && noneNegative weights)
+unfolding lowest highest noneNegative every
+extremes-sign low high [] h = rw h
+extremes-sign low high (z ∷ weights) h =
+    extremes-sign (lesser low z) (greater high z) weights (greater-sign high z h)
+    ∙ rw (lesser-sign low z) (and-assoc (nonNeg low) (nonNeg z) (noneNegative weights))
 
-highest-one-of : (P : ℤ → Type 0) (high : ℤ) (weights : List ℤ) (test : ℤ → Bool) → ((z : ℤ) → test z ≡ true → P z) → P high → every test weights ≡ true → P (highest high weights)
-unfolding highest every
-highest-one-of P high [] test f p h = p
-highest-one-of P high (z ∷ weights) test f p h =
-    let parts = both (test z) (every test weights) h in highest-one-of P (greater high z) weights test f (greater-one-of P high z p (f z (parts .0))) (parts .1)
+-- The greater magnitude of the two extremes, with one number more.
+extremes-wider : (low high z : ℤ) → leZ low high ≡ true → max (mag (lesser low z)) (mag (greater high z)) ≡ max (max (mag low) (mag high)) (mag z)
+extremes-wider low high z o =
+    let least = lesser low z in
+    let greatest = greater high z in
+    let most = max (mag least) (mag greatest) in
+    let between : (y : ℤ) → leZ least y ≡ true → leZ y greatest ≡ true → mag y < suc most = (λ y p q. mag-between least y greatest (suc most) p q (omega arith) (omega arith)) in
+    let l = between low (lesser-left low z) (leZ-trans low high greatest o (greater-left high z)) in
+    let h = between high (leZ-trans least low high (lesser-left low z) o) (greater-left high z) in
+    let m = between z (lesser-right low z) (greater-right high z) in
+    let a = lesser-one-of (λ y. mag y ≤ max (max (mag low) (mag high)) (mag z)) low z (omega arith) (omega arith) in
+    let b = greater-one-of (λ y. mag y ≤ max (max (mag low) (mag high)) (mag z)) high z (omega arith) (omega arith) in
+    le-antisymm (omega arith) (omega arith)
 
--- Every width holds 0.
-holds-zero : (a : ℕ) → holds a (pos 0) ≡ true
-unfolding holds
-holds-zero zero = eqZ-refl (pos 0)
-holds-zero (suc a) = holds-suc a (pos 0) ∙ lt-ltb 0 (2 ^ a) (pow-pos a)
+-- The extremes of all weights have the greatest magnitude.
+extremes-magnitude : (low high : ℤ) (weights : List ℤ) → leZ low high ≡ true → max (mag (lowest low weights)) (mag (highest high weights)) ≡ max (max (mag low) (mag high)) (greatestMagnitude weights)
+unfolding lowest highest greatestMagnitude
+extremes-magnitude low high [] o = omega arith
+extremes-magnitude low high (z ∷ weights) o =
+    extremes-magnitude (lesser low z) (greater high z) weights (leZ-trans (lesser low z) low (greater high z) (lesser-left low z) (leZ-trans low high (greater high z) o (greater-left high z)))
+    ∙ (let w = extremes-wider low high z o in omega arith)
 
 -- The weight width of a cell is that of its least and its greatest weight, with 0 among them.
 pub width-by-extremes : (weights : List ℤ) → weightWidth (lowest (pos 0) weights ∷ highest (pos 0) weights ∷ []) ≡ weightWidth weights
-unfolding every
+unfolding every noneNegative greatestMagnitude
 width-by-extremes weights =
-    let low = lowest (pos 0) weights in
-    let high = highest (pos 0) weights in
-    let pair = low ∷ high ∷ [] in
-    let wide : every (holds (weightWidth weights)) weights ≡ true = weight-width-holds weights in
-    let two : every (holds (weightWidth pair)) pair ≡ true = weight-width-holds pair in
-    let parts = both (holds (weightWidth pair) low) (every (holds (weightWidth pair)) (high ∷ [])) two in
-    le-antisymm
-    (weight-width-least pair (weightWidth weights)
-    (and-both (holds (weightWidth weights) low) (every (holds (weightWidth weights)) (high ∷ []))
-    (lowest-one-of (λ z. holds (weightWidth weights) z ≡ true) (pos 0) weights (holds (weightWidth weights)) (λ z h. h) (holds-zero (weightWidth weights)) wide)
-    (and-both (holds (weightWidth weights) high) true
-    (highest-one-of (λ z. holds (weightWidth weights) z ≡ true) (pos 0) weights (holds (weightWidth weights)) (λ z h. h) (holds-zero (weightWidth weights)) wide)
-    refl)))
-    (weight-width-least weights (weightWidth pair)
-    (extremes-hold (weightWidth pair) (pos 0) (pos 0) weights (leZ-refl (pos 0)) (parts .0) (both (holds (weightWidth pair) high) true (parts .1) .0) .1 .1))
+    let pair = lowest (pos 0) weights ∷ highest (pos 0) weights ∷ [] in
+    let sign : noneNegative pair ≡ noneNegative weights = extremes-sign (pos 0) (pos 0) weights refl in
+    let wide = extremes-magnitude (pos 0) (pos 0) weights (leZ-refl (pos 0)) in
+    let same : greatestMagnitude pair ≡ greatestMagnitude weights = omega arith in
+    yes-or-no (noneNegative weights)
+    (λ plain. unsigned-length pair (sign ∙ plain) ∙ ap bitLength same ∙ sym (unsigned-length weights plain))
+    (λ signed. signed-length pair (sign ∙ signed) ∙ ap (λ m. suc (bitLength m)) same ∙ sym (signed-length weights signed))
 
 -- The extremes with one number more.
 pub lowest-snoc : (low : ℤ) (l : List ℤ) (z : ℤ) → lowest low (l ++ z ∷ []) ≡ lesser (lowest low l) z

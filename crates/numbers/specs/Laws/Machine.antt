@@ -3,7 +3,7 @@ use Prim.Native.Nat.{ℕ, zero, suc, _+_, _-_, _^_, _≤_, _<_, zero-le}
 use native.Mathlib.Omega.{arith}
 use borrow.Author.Tests.{le-ltb, eq-eqb, ne-eqb}
 use mathlib.Core.Path.{_≡_, refl, sym, _∙_, ap}
-use mathlib.Core.Bool.{true, false, false≢true, true≢false}
+use mathlib.Core.Bool.{true, false, not, false≢true, true≢false}
 use lib.Dec.{T, ltb, eqb}
 use lib.IntN.{ℤ, pos, negsuc, negℤ, natAbs, subℕ, _+ℤ_, _-ℤ_}
 use lib.Signed.{mag, ltZ, nonNeg}
@@ -24,6 +24,11 @@ complement (negsuc a) h = rw (le-ltb (suc a) 1 (omega arith)) (ap pos (let e : s
 pub not-negative : (z : ℤ) → ltZ z (pos 0) ≡ false → z ≡ pos (mag z)
 not-negative (pos a) h = refl
 not-negative (negsuc a) h = absurd (true≢false h)
+
+-- The test for a negative number.
+pub sign-test : (z : ℤ) → nonNeg z ≡ not (ltZ z (pos 0))
+sign-test (pos a) = rw (le-ltb a 0 zero-le)
+sign-test (negsuc a) = refl
 
 -- A magnitude within a signed width: it is held signed and unsigned, and is read back as it is.
 module _ (w : Width) (z : ℤ) (h : SFits w z) where

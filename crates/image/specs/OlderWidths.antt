@@ -1,6 +1,6 @@
 -- Images with other widths than their cells' weights have: those of the older rule, by which every cell had a signed width.
 use Prim.Native.Nat.{ℕ}
-use mathlib.Core.List.{List, [], _∷_, map, flatMap}
+use mathlib.Core.List.{List, _∷_, map, flatMap}
 use Rattle.numbers.specs.Widths.{holds, leastWidth}
 use Rattle.image.specs.Cells.{Cell, Card}
 use Rattle.image.specs.Commands.{commandBytes, cellCommands}

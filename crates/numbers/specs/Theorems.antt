@@ -7,7 +7,6 @@ use mathlib.Core.List.{List}
 use lib.ListN.{length, getD}
 use lib.IntN.{ℤ, pos}
 use lib.Signed.{ltZ, nonNeg}
-use Rattle.numbers.specs.Lists.{every}
 use Rattle.numbers.specs.Ranges.{eqZ}
 use Rattle.numbers.specs.Widths.{holds, holdsUnsigned, leastWidth, noneNegative, weightWidth}
 use Rattle.numbers.specs.Laws.BitLength.{unsigned-length, complement-length}

@@ -1,5 +1,5 @@
 -- The numbers of a card that keeps the rules fit the bytes of its image.
-use Prim.Native.Nat.{ℕ, suc, _-_, _*_, _^_, _≤_, _<_}
+use Prim.Native.Nat.{ℕ, suc, _-_, _*_, _≤_, _<_}
 use mathlib.Core.Path.{_≡_, _∙_, ap}
 use mathlib.Core.Bool.{true}
 use mathlib.Core.List.{List, [], _∷_, _++_, map, flatMap}
@@ -7,8 +7,6 @@ use native.Mathlib.Omega.{arith}
 use lib.Dec.{lit<}
 use lib.ListN.{length, getD, length-map}
 use lib.IntN.{pos}
-use lib.Signed.{mag}
-use borrow.Author.Tests.{lt-ltb}
 use Rattle.numbers.specs.Lists.{every, sumOf}
 use Rattle.numbers.specs.Ranges.{isWeight, mostVariables}
 use Rattle.numbers.specs.Widths.{holds, leastWidth, weightWidth}

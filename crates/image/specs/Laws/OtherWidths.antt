@@ -1,13 +1,13 @@
 -- A cell that is written with another width than its weights have is refused with 13 after its last word, whatever follows.
 use Prim.Native.Nat.{ℕ, zero, suc, _+_, _-_, _≤_, _<_}
 use mathlib.Core.Path.{_≡_, refl, sym, _∙_, ap, ap₂, subst}
-use mathlib.Core.Bool.{true, false}
+use mathlib.Core.Bool.{false}
 use mathlib.Core.List.{List, [], _∷_, _++_, map, flatMap, append-assoc, append-nil}
 use native.Mathlib.Decide.{ℕ-discrete}
 use native.Mathlib.Omega.{arith}
 use lib.ListN.{length, drop, length-append, length-drop}
 use borrow.Author.Tests.{lt-ltb, ne-eqb}
-use Rattle.numbers.specs.Answers.{accepted, refused, andThen, mapAnswer}
+use Rattle.numbers.specs.Answers.{refused, andThen, mapAnswer}
 use Rattle.numbers.specs.Extremes.{lowest, highest}
 use Rattle.numbers.specs.Ranges.{mostVariables}
 use Rattle.numbers.specs.Widths.{weightWidth}
@@ -18,7 +18,7 @@ use Rattle.image.specs.Cells as cells
 use Rattle.image.specs.Cells.{Card, totalBits}
 use Rattle.image.specs.Commands.{commandBytes, wordCommand, cellCommands, cardCommands, imageOf}
 use Rattle.image.specs.OlderWidths.{withWidth, olderWidth, olderCard, imageTo}
-use Rattle.image.specs.Reader.{due, dueSize, keepsRules, placeAfter, widthIsLeast, step, followedBy, readFrom, reading, start, mostClasses}
+use Rattle.image.specs.Reader.{due, dueSize, keepsRules, placeAfter, widthIsLeast, followedBy, readFrom, reading, start, mostClasses}
 use Rattle.image.specs.WellFormed.{weights, KeepsCells, WellFormed}
 use Rattle.image.specs.Laws.Bounds.{variables-most}
 use Rattle.image.specs.Laws.Cards.{table-may, first-coming}
@@ -30,7 +30,7 @@ use Rattle.image.specs.Laws.Reading.{followed-on, size-some}
 use Rattle.image.specs.Laws.Standing.{May, Stands, after-at, step-back}
 use Rattle.image.specs.Laws.Steps.{step-wide}
 use Rattle.image.specs.declared.Command.{Command}
-use Rattle.image.specs.declared.Command.the-variants.{Table, Cell, Word, End}
+use Rattle.image.specs.declared.Command.the-variants.{Table, End}
 use Rattle.image.specs.declared.Place.{Place}
 
 -- ---- commands in front of other bytes

@@ -7,7 +7,7 @@ use mathlib.Core.List.{List, [], _∷_}
 use native.Mathlib.Nat.{le-trans, le-of-lt, le-max-left, le-max-right, lt-of-lt-of-le}
 use native.Mathlib.Omega.{arith}
 use lib.Dec.{leb, ltb, leb·suc-suc}
-use lib.ListN.{length, getD}
+use lib.ListN.{getD}
 use lib.Pow.{suc-ones, pow-mono}
 use lib.IntN.{ℤ, pos, negsuc, negℤ}
 use lib.Signed.{mag, nonNeg}

@@ -31,14 +31,19 @@ size_t panstrait_weight_width(int32_t least, int32_t greatest);
  * The classes of all cuts of a table over n variables. Block j of cut h has
  * place 2^h - 1 + j: its class in classes, and in firsts the first block of
  * class j of that cut, 0 past the last class. counts[h] is the number of
- * classes at cut h. True with the three rows filled where n is at most 12,
- * the table has 2^n values, classes and firsts have 2^(n+1) - 1 places and
- * counts has n + 1; else false, and the rows are left as they were.
+ * classes at cut h. tried has at a block's place how many classes the search
+ * for its class tried: it tries the class of the block just before, then the
+ * other known ones from class 0 up, each at most once, and the found one is
+ * counted; so it is 0 at a cut's first block, and all known ones at any other
+ * new class. True with the four rows filled where n is at most 12, the table
+ * has 2^n values, classes, firsts and tried have 2^(n+1) - 1 places and counts
+ * has n + 1; else false, and the rows are left as they were.
  */
 bool panstrait_classes(size_t n, const int32_t *table, size_t table_len,
                        size_t *classes, size_t classes_len,
                        size_t *firsts, size_t firsts_len,
-                       size_t *counts, size_t counts_len);
+                       size_t *counts, size_t counts_len,
+                       size_t *tried, size_t tried_len);
 
 /*
  * Build: 0, and the first numbers of the node buffer hold the table's records,

@@ -1,6 +1,7 @@
-//! The classes of all cuts, beside the same method in Rust.
+//! The classes of all cuts, beside the same method in Rust by the order of the
+//! library's search and by the former order, and how many classes both try.
 
-use crate::same_method;
+use crate::same_method::{self, cut_places};
 use crate::tables::{self, Named, N};
 use crate::timing::{self, black_box};
 use panstrait_compare::proved;
@@ -10,6 +11,7 @@ struct Rows {
     classes: Vec<usize>,
     firsts: Vec<usize>,
     counts: Vec<usize>,
+    tried: Vec<usize>,
 }
 
 impl Rows {
@@ -18,40 +20,90 @@ impl Rows {
             classes: vec![0; (2 << N) - 1],
             firsts: vec![0; (2 << N) - 1],
             counts: vec![0; N + 1],
+            tried: vec![0; (2 << N) - 1],
         }
+    }
+
+    fn proved(&mut self, table: &[i32]) {
+        assert!(proved::classes(
+            N,
+            table,
+            &mut self.classes,
+            &mut self.firsts,
+            &mut self.counts,
+            &mut self.tried,
+        ));
+    }
+
+    fn same_method(&mut self, table: &[i32]) {
+        same_method::class_cuts(
+            N,
+            table,
+            &mut self.classes,
+            &mut self.firsts,
+            &mut self.counts,
+            &mut self.tried,
+        );
+    }
+
+    fn former_order(&mut self, table: &[i32]) {
+        same_method::class_cuts_from_0(
+            N,
+            table,
+            &mut self.classes,
+            &mut self.firsts,
+            &mut self.counts,
+        );
+    }
+
+    fn same_classes(&self, other: &Rows) -> bool {
+        (&self.classes, &self.firsts, &self.counts)
+            == (&other.classes, &other.firsts, &other.counts)
+    }
+
+    /// How many classes the former order tries at all cuts.
+    fn tried_from_0(&self) -> usize {
+        let of_cut = |h| tried_from_0(&self.classes[cut_places(h)]);
+        (0..=N).map(of_cut).sum()
     }
 }
 
+/// How many it tries at a cut: a known class and all those below it, or, where
+/// the class is new, all that are known.
+fn tried_from_0(classes: &[usize]) -> usize {
+    let mut known = 0;
+    let tried = |&class: &usize| {
+        let new = class == known;
+        known += usize::from(new);
+        class + usize::from(!new)
+    };
+    classes.iter().map(tried).sum()
+}
+
 fn one(Named { name, table }: &Named) {
-    let (mut ours, mut theirs) = (Rows::new(), Rows::new());
+    let what = format!("classes, {name}");
+    let (mut ours, mut theirs, mut former) = (Rows::new(), Rows::new(), Rows::new());
     timing::line(
-        &format!("classes, {name}"),
+        &what,
         "same method",
-        || {
-            let Rows {
-                classes,
-                firsts,
-                counts,
-            } = &mut ours;
-            assert!(proved::classes(
-                N,
-                black_box(table),
-                classes,
-                firsts,
-                counts
-            ));
-        },
-        || {
-            let Rows {
-                classes,
-                firsts,
-                counts,
-            } = &mut theirs;
-            same_method::class_cuts(N, black_box(table), classes, firsts, counts);
-        },
+        || ours.proved(black_box(table)),
+        || theirs.same_method(black_box(table)),
     );
-    assert!(ours.classes == theirs.classes && ours.firsts == theirs.firsts);
-    assert!(ours.counts == theirs.counts);
+    timing::line(
+        &what,
+        "former order",
+        || ours.proved(black_box(table)),
+        || former.former_order(black_box(table)),
+    );
+    assert!(ours.same_classes(&theirs) && ours.tried == theirs.tried);
+    assert!(ours.same_classes(&former));
+    let tried = ours.tried.iter().sum::<usize>();
+    let former = former.tried_from_0();
+    println!(
+        "{what:<60} tried  {tried:>9}      {:<24} {former:>9}      ratio {:>5.2}",
+        "former order",
+        tried as f64 / former as f64
+    );
 }
 
 pub fn measure() {

@@ -2,9 +2,83 @@
 //! and the same comparisons, as a Rust programmer would put them.
 
 use panstrait_samples::RECORD;
+use std::ops::Range;
 
-/// The classes of all cuts, laid out cut after cut.
+/// The classes of all cuts, laid out cut after cut, and how many classes each
+/// block's search tried.
 pub fn class_cuts(
+    n: usize,
+    table: &[i32],
+    classes: &mut [usize],
+    firsts: &mut [usize],
+    counts: &mut [usize],
+    tried: &mut [usize],
+) {
+    for (h, count) in counts.iter_mut().enumerate() {
+        let blocks = cut_places(h);
+        *count = class_cut(
+            table,
+            1 << (n - h),
+            &mut classes[blocks.clone()],
+            &mut firsts[blocks.clone()],
+            &mut tried[blocks],
+        );
+    }
+}
+
+/// The places of the blocks of a cut in the rows of all cuts.
+pub fn cut_places(h: usize) -> Range<usize> {
+    (1 << h) - 1..(2 << h) - 1
+}
+
+/// The classes of one cut: each block is searched among the first blocks of the
+/// known classes.
+fn class_cut(
+    table: &[i32],
+    size: usize,
+    classes: &mut [usize],
+    firsts: &mut [usize],
+    tried: &mut [usize],
+) -> usize {
+    let block = |j: usize| &table[j * size..(j + 1) * size];
+    let (mut count, mut latest) = (0, 0);
+    for (j, (class, tried)) in classes.iter_mut().zip(tried).enumerate() {
+        let values = block(j);
+        let same = |first: usize| same_differences(block(first), values);
+        (latest, *tried) = find_class(&firsts[..count], latest, same);
+        *class = latest;
+        firsts[j] = 0;
+        if latest == count {
+            firsts[count] = j;
+            count += 1;
+        }
+    }
+    count
+}
+
+/// The class whose first block is the same, or the next new one, and how many
+/// were tried: the latest class first, then the others from class 0 up.
+fn find_class(firsts: &[usize], latest: usize, same: impl Fn(usize) -> bool) -> (usize, usize) {
+    if firsts.is_empty() {
+        return (0, 0);
+    }
+    if same(firsts[latest]) {
+        return (latest, 1);
+    }
+    let mut tried = 1;
+    for (class, &first) in firsts.iter().enumerate() {
+        if class != latest {
+            tried += 1;
+            if same(first) {
+                return (class, tried);
+            }
+        }
+    }
+    (firsts.len(), tried)
+}
+
+/// The classes of all cuts by the former order, always from class 0 up.
+pub fn class_cuts_from_0(
     n: usize,
     table: &[i32],
     classes: &mut [usize],
@@ -12,19 +86,23 @@ pub fn class_cuts(
     counts: &mut [usize],
 ) {
     for (h, count) in counts.iter_mut().enumerate() {
-        let blocks = 1 << h;
-        let row = blocks - 1..2 * blocks - 1;
-        *count = class_cut(
+        let blocks = cut_places(h);
+        *count = class_cut_from_0(
             table,
             1 << (n - h),
-            &mut classes[row.clone()],
-            &mut firsts[row],
+            &mut classes[blocks.clone()],
+            &mut firsts[blocks],
         );
     }
 }
 
 /// The classes of one cut: a linear search over the first blocks of the known.
-fn class_cut(table: &[i32], size: usize, classes: &mut [usize], firsts: &mut [usize]) -> usize {
+fn class_cut_from_0(
+    table: &[i32],
+    size: usize,
+    classes: &mut [usize],
+    firsts: &mut [usize],
+) -> usize {
     let block = |j: usize| &table[j * size..(j + 1) * size];
     let mut count = 0;
     for (j, class) in classes.iter_mut().enumerate() {
@@ -79,6 +157,7 @@ struct Cuts {
     classes: [usize; 8_191],
     firsts: [usize; 8_191],
     counts: [usize; 13],
+    tried: [usize; 8_191],
 }
 
 impl Cuts {
@@ -86,17 +165,24 @@ impl Cuts {
         classes: [0; 8_191],
         firsts: [0; 8_191],
         counts: [0; 13],
+        tried: [0; 8_191],
     };
 
     fn fill(&mut self, n: usize, table: &[i32]) {
         let places = (2 << n) - 1;
-        let (classes, firsts) = (&mut self.classes[..places], &mut self.firsts[..places]);
-        class_cuts(n, table, classes, firsts, &mut self.counts[..=n]);
+        class_cuts(
+            n,
+            table,
+            &mut self.classes[..places],
+            &mut self.firsts[..places],
+            &mut self.counts[..=n],
+            &mut self.tried[..places],
+        );
     }
 
     /// The classes of the blocks of a cut.
     fn classes(&self, h: usize) -> &[usize] {
-        &self.classes[(1 << h) - 1..(2 << h) - 1]
+        &self.classes[cut_places(h)]
     }
 
     /// The first blocks of the classes of a cut.

@@ -33,7 +33,23 @@ pub fn worst() -> Vec<Named> {
     };
     let mut worst = vec![named("all classes different", tables::all_different(N))];
     worst.extend([1, 2, 4, 6, 8].map(differ));
+    worst.push(named(
+        "blocks of 2, each class far from the one before",
+        tables::of_classes(1, &far_classes()),
+    ));
+    worst.push(named(
+        "adjacent ones, two classes alternate",
+        tables::of(N, |x| (x & x >> 1).count_ones() as i32),
+    ));
     worst
+}
+
+/// The classes of blocks of two values: one half are new, and the other half
+/// are all of them again, three of four below the one before.
+fn far_classes() -> Vec<usize> {
+    let known = 1 << (N - 2);
+    let again = |block: usize| (known - known / 4 - 1) * block % known;
+    (0..known).chain((known..2 * known).map(again)).collect()
 }
 
 pub fn many_words() -> Vec<Named> {
@@ -55,5 +71,18 @@ pub fn typical() -> Vec<Named> {
         named("sine, 8 bits", tables::of(N, sine(127.0))),
         named("sine, 24 bits", tables::of(N, sine(8_388_607.0))),
         named("remainder by 5", tables::of(N, |x| (x % 5) as i32)),
+        named("16 line segments", line_segments(16)),
+        named("64 line segments", line_segments(64)),
     ]
+}
+
+/// A rising curve of so many straight segments of equal length, each with a
+/// slope of its own.
+fn line_segments(segments: usize) -> Vec<i32> {
+    let length = (1 << N) / segments;
+    let mut value = 0;
+    tables::of(N, |x| {
+        value += 1 + (x / length * 7 % segments) as i32;
+        value
+    })
 }

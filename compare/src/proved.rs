@@ -16,6 +16,8 @@ mod c {
             firsts_len: usize,
             counts: *mut usize,
             counts_len: usize,
+            tried: *mut usize,
+            tried_len: usize,
         ) -> bool;
         pub fn panstrait_build(
             n: usize,
@@ -93,13 +95,14 @@ pub fn weight_width(least: i32, greatest: i32) -> usize {
     unsafe { c::panstrait_weight_width(least, greatest) }
 }
 
-/// The classes of all cuts, into the three rows; false where a size is wrong.
+/// The classes of all cuts, into the four rows; false where a size is wrong.
 pub fn classes(
     n: usize,
     table: &[i32],
     classes: &mut [usize],
     firsts: &mut [usize],
     counts: &mut [usize],
+    tried: &mut [usize],
 ) -> bool {
     unsafe {
         c::panstrait_classes(
@@ -112,6 +115,8 @@ pub fn classes(
             firsts.len(),
             counts.as_mut_ptr(),
             counts.len(),
+            tried.as_mut_ptr(),
+            tried.len(),
         )
     }
 }

@@ -3,36 +3,45 @@
 use panstrait_compare::proved;
 use panstrait_reference as reference;
 use panstrait_samples::{cases, tables, Random};
+use std::ops::Range;
 
-/// What the rows are filled with before a call.
+/// What the rows are filled with before a call, and the places beside each.
 const PLACE: usize = 0x5EED_1234_5678;
+const MARGIN: [usize; 4] = [PLACE; 4];
 
-/// The three rows: each block's class, each class's first block, the counts.
-#[derive(Debug, Clone, PartialEq, Eq)]
-struct Rows {
-    classes: Vec<usize>,
-    firsts: Vec<usize>,
-    counts: Vec<usize>,
+/// The rows in the order of the C interface: each block's class, each class's
+/// first block, the counts, and how many classes each block's search tried.
+type Rows = [Vec<usize>; 4];
+
+fn patterned(sizes: [usize; 4]) -> Rows {
+    sizes.map(|size| vec![PLACE; size])
 }
 
-impl Rows {
-    fn patterned(classes: usize, firsts: usize, counts: usize) -> Rows {
-        Rows {
-            classes: vec![PLACE; classes],
-            firsts: vec![PLACE; firsts],
-            counts: vec![PLACE; counts],
-        }
-    }
+/// A row within its margins.
+fn inner(row: &mut [usize]) -> &mut [usize] {
+    let end = row.len() - MARGIN.len();
+    &mut row[MARGIN.len()..end]
+}
 
-    fn fill(&mut self, n: usize, table: &[i32]) -> bool {
-        proved::classes(
-            n,
-            table,
-            &mut self.classes,
-            &mut self.firsts,
-            &mut self.counts,
-        )
-    }
+/// The answer to a call with these rows, which leaves the places beside them.
+fn call(n: usize, table: &[i32], rows: &mut Rows) -> bool {
+    let mut lent = rows
+        .clone()
+        .map(|row| [&MARGIN, &row[..], &MARGIN].concat());
+    let [classes, firsts, counts, tried] = &mut lent;
+    let answer = proved::classes(
+        n,
+        table,
+        inner(classes),
+        inner(firsts),
+        inner(counts),
+        inner(tried),
+    );
+    *rows = lent.map(|mut row| {
+        assert!(row.starts_with(&MARGIN) && row.ends_with(&MARGIN), "n {n}");
+        inner(&mut row).to_vec()
+    });
+    answer
 }
 
 /// The places of the blocks of all cuts.
@@ -40,26 +49,41 @@ fn places(n: usize) -> usize {
     (2 << n) - 1
 }
 
+/// The places of the blocks of one cut.
+fn cut_places(cut: usize) -> Range<usize> {
+    (1 << cut) - 1..(2 << cut) - 1
+}
+
+fn sizes(n: usize) -> [usize; 4] {
+    [places(n), places(n), n + 1, places(n)]
+}
+
 /// The rows by the second program, cut by cut.
 fn expected(n: usize, table: &[i32]) -> Rows {
-    let mut rows = Rows::patterned(0, 0, 0);
+    let mut rows = patterned([0; 4]);
     for cut in 0..=n {
         let classes = reference::classes(n, table, cut);
         let count = classes.iter().max().map_or(0, |most| most + 1);
         let first = |class| classes.iter().position(|&c| c == class);
         let mut firsts: Vec<usize> = (0..count).filter_map(first).collect();
         firsts.resize(classes.len(), 0);
-        rows.classes.extend(classes);
-        rows.firsts.extend(firsts);
-        rows.counts.push(count);
+        rows[0].extend(classes);
+        rows[1].extend(firsts);
+        rows[2].push(count);
+        rows[3].extend(reference::tried(n, table, cut));
     }
     rows
 }
 
+/// The rows by the proved library.
+fn answered(n: usize, table: &[i32]) -> Rows {
+    let mut rows = patterned(sizes(n));
+    assert!(call(n, table, &mut rows), "n {n}");
+    rows
+}
+
 fn same_rows(n: usize, table: &[i32]) {
-    let mut rows = Rows::patterned(places(n), places(n), n + 1);
-    assert!(rows.fill(n, table), "n {n}");
-    assert!(rows == expected(n, table), "n {n}: {table:?}");
+    assert!(answered(n, table) == expected(n, table), "n {n}: {table:?}");
 }
 
 #[test]
@@ -98,6 +122,7 @@ fn random_tables() {
     for n in 1..=12 {
         for _ in 0..if n < 9 { 300 } else { 40 } {
             same_rows(n, &tables::random(n, &mut random));
+            same_rows(n, &tables::wandering(n, &mut random));
         }
     }
 }
@@ -110,6 +135,84 @@ fn all_small_tables() {
     }
     for code in 0..1_usize << 8 {
         same_rows(3, &tables::of(3, |x| (code >> x & 1) as i32));
+    }
+}
+
+/// Each block's class, and how many classes were tried for it.
+#[test]
+fn searches_worked_out_by_hand() {
+    for case in cases::searches() {
+        let [classes, _, _, tried] = answered(case.n, &case.table);
+        let blocks = cut_places(case.cut);
+        assert_eq!(classes[blocks.clone()], case.classes(), "{}", case.name);
+        assert_eq!(tried[blocks], case.tried(), "{}", case.name);
+    }
+}
+
+/// Every row of classes that 1, 2, 4 and 8 blocks can have.
+#[test]
+fn all_rows_of_few_classes() {
+    for cut in 0..=3 {
+        for row in tables::class_rows(1 << cut) {
+            same_rows(cut + 1, &tables::of_classes(1, &row));
+        }
+    }
+}
+
+/// All known classes are tried at every block of a cut, and none at the first
+/// block of the next cut.
+#[test]
+fn the_last_two_classes_alternate() {
+    for n in 3..=12 {
+        for height in 1..=n - 2 {
+            let table = tables::alternating_last_classes(n, height);
+            same_rows(n, &table);
+            let [.., tried] = answered(n, &table);
+            let cut = n - height;
+            let known = 1 << (cut - 1);
+            assert_eq!(tried[cut_places(cut)][known..], vec![known; known]);
+            assert_eq!(tried[cut_places(cut + 1)][0], 0);
+        }
+    }
+}
+
+/// Neither at the cut whose blocks are moved nor at a cut below it.
+#[test]
+fn other_offsets_change_nothing() {
+    let mut random = Random(6);
+    for n in 1..=10 {
+        for _ in 0..10 {
+            let table = tables::wandering(n, &mut random);
+            let rows = answered(n, &table);
+            for cut in 0..=n {
+                let moved = answered(n, &tables::moved_blocks(n, &table, cut, &mut random));
+                let from = cut_places(cut).start;
+                for row in [0, 1, 3] {
+                    assert!(moved[row][from..] == rows[row][from..], "{table:?}");
+                }
+                assert_eq!(moved[2][cut..], rows[2][cut..]);
+            }
+        }
+    }
+}
+
+/// Rows that are full of one number, that count, and that have the answer for
+/// another table.
+#[test]
+fn what_the_rows_held_changes_nothing() {
+    let mut random = Random(7);
+    for n in 1..=10 {
+        let table = tables::wandering(n, &mut random);
+        let expected = expected(n, &table);
+        let mut held: Vec<Rows> = [0, 1, n, usize::MAX]
+            .map(|number| sizes(n).map(|size| vec![number; size]))
+            .into();
+        held.push(sizes(n).map(|size| (0..size).collect()));
+        held.push(answered(n, &tables::all_different(n)));
+        for mut rows in held {
+            assert!(call(n, &table, &mut rows), "n {n}");
+            assert!(rows == expected, "n {n}: {table:?}");
+        }
     }
 }
 
@@ -129,29 +232,34 @@ fn differences_beyond_32_bits() {
 }
 
 /// A call with these sizes answers false and leaves the rows.
-fn refused(n: usize, values: usize, rows: Rows) {
+fn refused(n: usize, values: usize, sizes: [usize; 4]) {
     let table = vec![5; values];
-    let mut after = rows.clone();
-    assert!(!after.fill(n, &table), "n {n}, {values} values");
-    assert!(after == rows, "n {n}, {values} values");
+    let mut rows = patterned(sizes);
+    assert!(!call(n, &table, &mut rows), "n {n}, {values}, {sizes:?}");
+    assert!(rows == patterned(sizes), "n {n}, {values}, {sizes:?}");
 }
 
+/// The table and the rows, each of the right size or of a wrong one: one less,
+/// one more, none, and another's size. All are refused but where each is right.
 #[test]
-fn one_wrong_size() {
+fn wrong_sizes() {
     for n in 0..=12 {
         let (values, places) = (1 << n, places(n));
-        for wrong in [values - 1, values + 1, 0, 2 * values] {
-            refused(n, wrong, Rows::patterned(places, places, n + 1));
-        }
-        for wrong in [places - 1, places + 1, 0, values] {
-            if wrong != places {
-                refused(n, values, Rows::patterned(wrong, places, n + 1));
-                refused(n, values, Rows::patterned(places, wrong, n + 1));
-                refused(n, values, Rows::patterned(wrong, wrong, n + 1));
+        let tables = [values, values - 1, values + 1, 0, 2 * values];
+        let blocks = [places, places - 1, places + 1, 0, values];
+        let counts = [n + 1, n, n + 2, 0, places + 1];
+        for code in 0..5_usize.pow(5) {
+            let digit = |place: u32| code / 5_usize.pow(place) % 5;
+            let values = tables[digit(0)];
+            let rows = [
+                blocks[digit(1)],
+                blocks[digit(2)],
+                counts[digit(3)],
+                blocks[digit(4)],
+            ];
+            if (values, rows) != (1 << n, sizes(n)) {
+                refused(n, values, rows);
             }
-        }
-        for wrong in [n, n + 2, 0, places + 1] {
-            refused(n, values, Rows::patterned(places, places, wrong));
         }
     }
 }
@@ -159,29 +267,14 @@ fn one_wrong_size() {
 #[test]
 fn too_many_variables() {
     for n in [13, 14, 31, 32, 62, 63, 64, 65, 1 << 32, usize::MAX] {
-        refused(n, 0, Rows::patterned(0, 0, 0));
-        refused(n, 1, Rows::patterned(1, 1, 1));
-        refused(n, 4_096, Rows::patterned(8_191, 8_191, 13));
+        refused(n, 0, [0; 4]);
+        refused(n, 1, [1; 4]);
+        refused(n, 4_096, sizes(12));
     }
-    refused(13, 8_192, Rows::patterned(16_383, 16_383, 14));
+    refused(13, 8_192, sizes(13));
     for n in cases::WRAPPED_3 {
         for values in [8, 0, 1, 16] {
-            refused(n, values, Rows::patterned(15, 15, 4));
-        }
-    }
-}
-
-#[test]
-fn random_wrong_sizes() {
-    let mut random = Random(5);
-    for _ in 0..5_000 {
-        let n = random.below(9);
-        let mut near = |size: usize| (size + random.below(3)).saturating_sub(1);
-        let (values, classes, firsts, counts) =
-            (near(1 << n), near(places(n)), near(places(n)), near(n + 1));
-        let right = (1 << n, places(n), places(n), n + 1);
-        if (values, classes, firsts, counts) != right {
-            refused(n, values, Rows::patterned(classes, firsts, counts));
+            refused(n, values, sizes(3));
         }
     }
 }

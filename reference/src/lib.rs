@@ -8,8 +8,8 @@
 //!
 //! The layers, lowest first: `refusal`, `ranges` and `widths`; `reader`, which
 //! knows images and no tables, and `lists`, which knows record lists and no
-//! tables; `table` (blocks, classes, the node bound); `diagram`; `grouping`;
-//! `compiler`; `listing`.
+//! tables; `table` (blocks, classes and the search for them, the node bound);
+//! `diagram`; `grouping`; `compiler`; `listing`.
 
 mod compiler;
 mod diagram;
@@ -29,5 +29,5 @@ pub use listing::listing;
 pub use lists::{report, walk, Reported};
 pub use reader::{expand, expand_older, run, run_older, Ran};
 pub use refusal::Refusal;
-pub use table::{classes, node_bound};
+pub use table::{classes, node_bound, tried};
 pub use widths::{rail_width, weight_width};

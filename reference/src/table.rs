@@ -38,6 +38,30 @@ pub fn classes(n: usize, table: &[i32], cut: usize) -> Vec<usize> {
     table.chunks(1 << (n - cut)).map(class_of).collect()
 }
 
+/// How many classes the search for the class of every block at a cut tries,
+/// left to right. It tries the class of the block just before, then the other
+/// known ones from class 0 up, and ends with the one it finds.
+///
+/// For a table of 2^n values and a cut from 0 to n.
+pub fn tried(n: usize, table: &[i32], cut: usize) -> Vec<usize> {
+    let mut known: Vec<&[i32]> = Vec::new();
+    let mut latest = None;
+    let search = |block| {
+        let mut tried = 0;
+        let others = (0..known.len()).filter(|&class| Some(class) != latest);
+        let found = latest.into_iter().chain(others).find(|&class| {
+            tried += 1;
+            equal_differences(known[class], block)
+        });
+        latest = found.or_else(|| {
+            known.push(block);
+            Some(known.len() - 1)
+        });
+        tried
+    };
+    table.chunks(1 << (n - cut)).map(search).collect()
+}
+
 /// The bound on the node count for a greatest rise p and a height l.
 ///
 /// For a table of 2^n values and l from 1 to n; `i128::MAX` if it is beyond

@@ -3,6 +3,7 @@
 
 use crate::lists::{with_bounds, Branch};
 use crate::{Draft, DraftCell};
+use std::cmp::Ordering;
 use std::collections::HashMap;
 
 /// The class of every block at a cut, by a map of differences.
@@ -16,6 +17,25 @@ pub fn classes(n: usize, table: &[i32], cut: usize) -> Vec<usize> {
             *known.entry(differences).or_insert(next)
         })
         .collect()
+}
+
+/// How many classes the search at each block of a cut tries, by the classes of
+/// the blocks alone: one that is not the latest stands in the order from 0 up,
+/// one place later if the latest was taken from behind it.
+pub fn tried(classes: &[usize]) -> Vec<usize> {
+    let mut known = 0;
+    let at = |(block, &class): (usize, &usize)| {
+        if class == known {
+            known += 1;
+            return class;
+        }
+        match class.cmp(&classes[block - 1]) {
+            Ordering::Less => class + 2,
+            Ordering::Equal => 1,
+            Ordering::Greater => class + 1,
+        }
+    };
+    classes.iter().enumerate().map(at).collect()
 }
 
 /// The records, sharing by equal low, high and weight within a height.

@@ -1,6 +1,6 @@
 //! Families of tables, structured and pseudo-random with fixed seeds.
 
-use crate::{GREATEST, LEAST};
+use crate::{oracle, GREATEST, LEAST};
 use std::f64::consts::PI;
 
 /// A small generator of pseudo-random numbers (splitmix64).
@@ -152,14 +152,79 @@ pub fn all_different(n: usize) -> Vec<i32> {
 /// The blocks of one height agree up to their last value, which is another in
 /// each.
 pub fn last_value_differs(n: usize, height: usize) -> Vec<i32> {
+    by_last_value(n, height, |block| block as i32 + 1)
+}
+
+/// The blocks of one height are 0 up to their last value.
+fn by_last_value(n: usize, height: usize, last_value: impl Fn(usize) -> i32) -> Vec<i32> {
     let last = (1 << height) - 1;
     of(n, |x| {
         if x & last == last {
-            (x >> height) as i32 + 1
+            last_value(x >> height)
         } else {
             0
         }
     })
+}
+
+/// A table whose blocks of a height from 1 up have these classes, and agree up
+/// to their last value.
+pub fn of_classes(height: usize, classes: &[usize]) -> Vec<i32> {
+    let n = height + classes.len().trailing_zeros() as usize;
+    by_last_value(n, height, |block| classes[block] as i32)
+}
+
+/// Every row of classes that so many blocks can have.
+pub fn class_rows(blocks: usize) -> Vec<Vec<usize>> {
+    let longer = |row: Vec<usize>| {
+        let known = row.iter().max().map_or(0, |most| most + 1);
+        (0..=known).map(move |class| [&row[..], &[class]].concat())
+    };
+    (0..blocks).fold(vec![Vec::new()], |rows, _| {
+        rows.into_iter().flat_map(longer).collect()
+    })
+}
+
+/// A table whose blocks of some height are of the class of the block before, of
+/// a new class or of any known one, each more or less often.
+pub fn wandering(n: usize, random: &mut Random) -> Vec<i32> {
+    let height = 1 + random.below(n);
+    let [same, new, any] = [20, 4, 8].map(|most| 1 + random.below(most));
+    let (mut class, mut known) = (0, 1);
+    let mut classes = vec![class];
+    classes.resize_with(1 << (n - height), || {
+        let chance = random.below(same + new + any);
+        if chance < new {
+            class = known;
+            known += 1;
+        } else if chance < new + any {
+            class = random.below(known);
+        }
+        class
+    });
+    of_classes(height, &classes)
+}
+
+/// The table with each block of a cut moved by a number of its own, within the
+/// values' range.
+pub fn moved_blocks(n: usize, table: &[i32], cut: usize, random: &mut Random) -> Vec<i32> {
+    let mut moved = table.to_vec();
+    for block in moved.chunks_mut(1 << (n - cut)) {
+        let (_, least, greatest, _) = oracle::numbers(block);
+        let by = random.between(LEAST - least, GREATEST - greatest);
+        block.iter_mut().for_each(|value| *value += by);
+    }
+    moved
+}
+
+/// Of the blocks of one height, at least four, half are each of a new class,
+/// and in the rest the last two classes alternate: at every block the search
+/// tries all known classes.
+pub fn alternating_last_classes(n: usize, height: usize) -> Vec<i32> {
+    let half = 1 << (n - height - 1);
+    let class = |block: usize| block.min(half - 2 + block % 2);
+    let classes: Vec<usize> = (0..2 * half).map(class).collect();
+    of_classes(height, &classes)
 }
 
 /// A table over 12 variables whose grouping of least cost is 5, 4, 3, with 300

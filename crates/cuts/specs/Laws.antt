@@ -2,3 +2,4 @@
 pub mod Classing
 pub mod Cut
 pub mod Halves
+pub mod Tries

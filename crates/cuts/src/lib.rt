@@ -1,8 +1,9 @@
-// The classes of one cut: the class of each block, one after the other, and the first block of each class.
+// The classes of one cut: the class of each block, one after the other, the first block of each class, and how many classes were
+// tried for each block.
 ghost use mathlib.Core.Path.{_≡_};
-ghost use Prim.Native.Nat.{_+_, _*_, _≤_, _<_};
+ghost use Prim.Native.Nat.{_≤_, _<_};
 ghost use lib.ListN.{length};
-ghost use Rattle.cuts.specs.Inner.Classing.{cutRows, BlockRoom, blockClassed, HalvesRoom, halvesClassed, CutRoom, CutClassed, countNoted, firstsNoted};
+ghost use Rattle.cuts.specs.Inner.Classing.{latestClass, cutRows, BlockRoom, blockClassed, HalvesRoom, halvesClassed, CutRoom, CutClassed, countNoted, firstsNoted};
 
 // The first block of a new class is noted behind those known, in a row of one place for each block so far.
 fn note_first(firsts: &mut [usize], count: usize, j: usize, class: usize) -> usize
@@ -17,7 +18,18 @@ fn note_first(firsts: &mut [usize], count: usize, j: usize, class: usize) -> usi
     count
 }
 
-// A block is classed: its class is noted, and the block as the first of its class where that is new.
+// The latest class at block j: that of the block just before, and 0 at the first block, where no class is known.
+fn latest_class(classes: &[usize], j: usize) -> usize
+    requires { ⌜ j ≤ length (now classes) ⌝ }
+    ensures { λ r. ⌜ r ≡ latestClass (now (classes .entry)) j ⌝ }
+{
+    if j == 0 {
+        return 0;
+    }
+    classes[j - 1]
+}
+
+// A block is classed: its class and how many were tried are noted, and the block as the first of its class where that is new.
 fn class_block(
     table: &[i32],
     size: usize,
@@ -26,13 +38,16 @@ fn class_block(
     count: usize,
     classes: &mut [usize],
     firsts: &mut [usize],
+    tried: &mut [usize],
 ) -> usize
-    requires { ⌜ BlockRoom (now table) size j count (now classes) (now firsts) ⌝ }
-    ensures { λ r. ⌜ cutRows r (now (classes .exit)) (now (firsts .exit)) ≡ blockClassed (now (table .entry)) size j (now (values .entry)) (cutRows count (now (classes .entry)) (now (firsts .entry))) ⌝ }
+    requires { ⌜ BlockRoom (now table) size j (cutRows count (now classes) (now firsts) (now tried)) ⌝ }
+    ensures { λ r. ⌜ cutRows r (now (classes .exit)) (now (firsts .exit)) (now (tried .exit)) ≡ blockClassed (now (table .entry)) size j (now (values .entry)) (cutRows count (now (classes .entry)) (now (firsts .entry)) (now (tried .entry))) ⌝ }
 {
-    let class = search::find_class(table, size, &firsts[..count], values);
-    let known = note_first(firsts, count, j, class);
-    classes[j] = class;
+    let latest = latest_class(classes, j);
+    let found = search::find_class(table, size, &firsts[..count], latest, values);
+    let known = note_first(firsts, count, j, found.class);
+    classes[j] = found.class;
+    tried[j] = found.tried;
     known
 }
 
@@ -45,42 +60,64 @@ fn class_halves(
     count: usize,
     classes: &mut [usize],
     firsts: &mut [usize],
+    tried: &mut [usize],
 ) -> usize
-    requires { ⌜ HalvesRoom (now table) size j count (now classes) (now firsts) ⌝ }
-    ensures { λ r. ⌜ cutRows r (now (classes .exit)) (now (firsts .exit)) ≡ halvesClassed (now (table .entry)) size j (now (above .entry)) (cutRows count (now (classes .entry)) (now (firsts .entry))) ⌝ }
+    requires { ⌜ HalvesRoom (now table) size j (now above) (cutRows count (now classes) (now firsts) (now tried)) ⌝ }
+    ensures { λ r. ⌜ cutRows r (now (classes .exit)) (now (firsts .exit)) (now (tried .exit)) ≡ halvesClassed (now (table .entry)) size j (now (above .entry)) (cutRows count (now (classes .entry)) (now (firsts .entry)) (now (tried .entry))) ⌝ }
 {
     let middle = above.len() / 2;
     let lower = &above[..middle];
     let upper = &above[middle..];
-    let known = class_block(table, size, 2 * j, lower, count, classes, firsts);
-    class_block(table, size, 2 * j + 1, upper, known, classes, firsts)
+    let known = class_block(table, size, 2 * j, lower, count, classes, firsts, tried);
+    class_block(table, size, 2 * j + 1, upper, known, classes, firsts, tried)
 }
 
 // The classes of a cut below another: its blocks are the halves of the blocks of the cut above, each a part of the table.
-fn class_cut_below(table: &[i32], size: usize, classes: &mut [usize], firsts: &mut [usize]) -> usize
-    requires { ⌜ CutRoom (now table) size (now classes) (now firsts) ⌝ }
+fn class_cut_below(
+    table: &[i32],
+    size: usize,
+    classes: &mut [usize],
+    firsts: &mut [usize],
+    tried: &mut [usize],
+) -> usize
+    requires { ⌜ CutRoom (now table) size (now classes) (now firsts) (now tried) ⌝ }
     requires { ⌜ (length (now classes) ≡ 1 → ⊥) ⌝ }
-    ensures { λ r. ⌜ CutClassed (now (table .entry)) size (length (now (classes .entry))) r (now (classes .exit)) (now (firsts .exit)) ⌝ }
+    ensures { λ r. ⌜ CutClassed (now (table .entry)) size (length (now (classes .entry))) (cutRows r (now (classes .exit)) (now (firsts .exit)) (now (tried .exit))) ⌝ }
 {
     let mut count = 0;
     let mut j = 0;
     while j < classes.len() / 2 {
         let start = 2 * j * size;
         let end = start + 2 * size;
-        count = class_halves(table, size, j, &table[start..end], count, classes, firsts);
+        count = class_halves(
+            table,
+            size,
+            j,
+            &table[start..end],
+            count,
+            classes,
+            firsts,
+            tried,
+        );
         j += 1;
     }
     count
 }
 
-// The classes of a cut whose blocks have this size: each block's class, each class's first block, and the class count. Cut 0 has
-// one block, the table.
-pub fn class_cut(table: &[i32], size: usize, classes: &mut [usize], firsts: &mut [usize]) -> usize
-    requires { ⌜ CutRoom (now table) size (now classes) (now firsts) ⌝ }
-    ensures { λ r. ⌜ CutClassed (now (table .entry)) size (length (now (classes .entry))) r (now (classes .exit)) (now (firsts .exit)) ⌝ }
+// The classes of a cut whose blocks have this size: each block's class, each class's first block, how many classes were tried for
+// each block, and the class count. Cut 0 has one block, the table.
+pub fn class_cut(
+    table: &[i32],
+    size: usize,
+    classes: &mut [usize],
+    firsts: &mut [usize],
+    tried: &mut [usize],
+) -> usize
+    requires { ⌜ CutRoom (now table) size (now classes) (now firsts) (now tried) ⌝ }
+    ensures { λ r. ⌜ CutClassed (now (table .entry)) size (length (now (classes .entry))) (cutRows r (now (classes .exit)) (now (firsts .exit)) (now (tried .exit))) ⌝ }
 {
     if classes.len() == 1 {
-        return class_block(table, size, 0, table, 0, classes, firsts);
+        return class_block(table, size, 0, table, 0, classes, firsts, tried);
     }
-    class_cut_below(table, size, classes, firsts)
+    class_cut_below(table, size, classes, firsts, tried)
 }

@@ -22,7 +22,8 @@ pub extern "C" fn panstrait_weight_width(least: i32, greatest: i32) -> usize
     widths::weight_width(least, greatest)
 }
 
-// The classes of all cuts: each block's class, each class's first block, and the class count of each cut.
+// The classes of all cuts: each block's class, each class's first block, the class count of each cut, and how many classes were
+// tried for each block.
 #[no_mangle]
 pub extern "C" fn panstrait_classes(
     n: usize,
@@ -30,11 +31,19 @@ pub extern "C" fn panstrait_classes(
     classes: &mut [usize],
     firsts: &mut [usize],
     counts: &mut [usize],
+    tried: &mut [usize],
 ) -> bool
-    ensures { λ r. ⌜ Classed n (now (table .entry)) (now (classes .entry)) (now (firsts .entry)) (now (counts .entry)) r (now (classes .exit)) (now (firsts .exit)) (now (counts .exit)) ⌝ }
+    ensures { λ r. ⌜ Classed n (now (table .entry)) (now (classes .entry)) (now (firsts .entry)) (now (counts .entry)) (now (tried .entry)) r (now (classes .exit)) (now (firsts .exit)) (now (counts .exit)) (now (tried .exit)) ⌝ }
 {
-    if sizes::sizes_fit(n, table.len(), classes.len(), firsts.len(), counts.len()) {
-        classes::class_cuts(n, table, classes, firsts, counts);
+    if sizes::sizes_fit(
+        n,
+        table.len(),
+        classes.len(),
+        firsts.len(),
+        counts.len(),
+        tried.len(),
+    ) {
+        classes::class_cuts(n, table, classes, firsts, counts, tried);
         return true;
     }
     false

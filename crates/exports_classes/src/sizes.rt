@@ -2,9 +2,16 @@
 ghost use mathlib.Core.Path.{_≡_};
 ghost use Rattle.exports_classes.specs.Classing.{sizesFit};
 
-// Whether a table and three rows, given by their lengths, have the sizes that the classes of all cuts need.
-pub(crate) fn sizes_fit(n: usize, values: usize, blocks: usize, firsts: usize, cuts: usize) -> bool
-    ensures { λ r. ⌜ r ≡ sizesFit n values blocks firsts cuts ⌝ }
+// Whether a table and four rows, given by their lengths, have the sizes that the classes of all cuts need.
+pub(crate) fn sizes_fit(
+    n: usize,
+    values: usize,
+    blocks: usize,
+    firsts: usize,
+    cuts: usize,
+    tried: usize,
+) -> bool
+    ensures { λ r. ⌜ r ≡ sizesFit n values blocks firsts cuts tried ⌝ }
 {
     if 12 < n {
         return false;
@@ -19,5 +26,8 @@ pub(crate) fn sizes_fit(n: usize, values: usize, blocks: usize, firsts: usize, c
     if firsts != places {
         return false;
     }
-    cuts == n + 1
+    if cuts != n + 1 {
+        return false;
+    }
+    tried == places
 }

@@ -42,7 +42,7 @@ fn plan_cuts(n: usize, table: &[i32], limit: usize, firsts: &[usize], counts: &[
     }
 }
 
-// The classes of all cuts of a table, and from them its plan.
+// The classes of all cuts of a table, and from them its plan. How many classes were tried is not asked for.
 fn plan_table(
     n: usize,
     table: &[i32],
@@ -55,7 +55,9 @@ fn plan_table(
     ensures { λ r. ⌜ Plans n (now (table .entry)) limit r ⌝ }
     ensures { λ r. ⌜ AllClassed n (now (table .entry)) (now (classes .exit)) (now (firsts .exit)) (now (counts .exit)) ⌝ }
 {
-    classes::class_cuts(n, table, classes, firsts, counts);
+    let mut tried = [0usize; 8191];
+    let places = classes.len();
+    classes::class_cuts(n, table, classes, firsts, counts, &mut tried[..places]);
     plan_cuts(n, table, limit, firsts, counts)
 }
 

@@ -1,11 +1,17 @@
-// The class of a block among those known.
+// The class of a block among those known, and how many of them are tried until it is found.
 ghost use mathlib.Core.Path.{_≡_};
 ghost use Prim.Native.Nat.{_+_, _*_, _≤_};
 ghost use lib.ListN.{length};
 ghost use Rattle.blocks.specs.Blocks.{differences};
-ghost use Rattle.blocks.specs.Classes.{same, numberIn};
+ghost use Rattle.blocks.specs.Classes.{same};
 ghost use Rattle.blocks.specs.Inner.Layout.{part};
-ghost use Rattle.search.specs.Inner.Searching.{partDifferences, PartsWithin};
+ghost use Rattle.search.specs.Inner.Searching.{partDifferences, PartsWithin, firstBetween, KnownClasses, foundAmong};
+
+// What the search for a block's class finds: the class, and how many classes were tried, that one included.
+pub struct Found {
+    pub class: usize,
+    pub tried: usize,
+}
 
 // Whether part j of a table has the differences of these values.
 fn same_part(table: &[i32], size: usize, j: usize, values: &[i32]) -> bool
@@ -17,20 +23,70 @@ fn same_part(table: &[i32], size: usize, j: usize, values: &[i32]) -> bool
     comparing::same_differences(&table[start..end], values)
 }
 
-// The class of a block among the known ones, each given by its first block; where none is equal, the next new number.
-pub fn find_class(table: &[i32], size: usize, firsts: &[usize], values: &[i32]) -> usize
-    requires { ⌜ PartsWithin (now table) size (now firsts) ⌝ }
-    ensures { λ r. ⌜ r ≡ numberIn (partDifferences (now (table .entry)) size (now (firsts .entry))) (differences (now (values .entry))) ⌝ }
+// The first class from one number on and before another whose first block has the differences of these values; that other number
+// where none has.
+fn find_between(
+    table: &[i32],
+    size: usize,
+    firsts: &[usize],
+    from: usize,
+    to: usize,
+    values: &[i32],
+) -> usize
+    requires { ⌜ PartsWithin (now table) size (now firsts) × ((from ≤ to) × (to ≤ length (now firsts))) ⌝ }
+    ensures { λ r. ⌜ r ≡ firstBetween (partDifferences (now (table .entry)) size (now (firsts .entry))) from to (differences (now (values .entry))) ⌝ }
 {
-    let mut k = 0;
-    let class = loop {
-        if k == firsts.len() {
-            break firsts.len();
+    let mut class = from;
+    let found = loop {
+        if class == to {
+            break to;
         }
-        if same_part(table, size, firsts[k], values) {
-            break k;
+        if same_part(table, size, firsts[class], values) {
+            break class;
         }
-        k += 1;
+        class += 1;
     };
-    class
+    found
+}
+
+// The class of a block among the known ones, each given by its first block; where none is equal, the next new number. The latest
+// class, that of the block just before, is tried first, then the others from class 0 up.
+pub fn find_class(
+    table: &[i32],
+    size: usize,
+    firsts: &[usize],
+    latest: usize,
+    values: &[i32],
+) -> Found
+    requires { ⌜ KnownClasses (now table) size (now firsts) latest ⌝ }
+    ensures { λ r. ⌜ r ≡ foundAmong (partDifferences (now (table .entry)) size (now (firsts .entry))) latest (differences (now (values .entry))) ⌝ }
+{
+    if firsts.len() == 0 {
+        return Found { class: 0, tried: 0 };
+    }
+    if same_part(table, size, firsts[latest], values) {
+        return Found {
+            class: latest,
+            tried: 1,
+        };
+    }
+    let before = find_between(table, size, firsts, 0, latest, values);
+    if before < latest {
+        // The latest, and all up to this one.
+        let tried = before + 2;
+        return Found {
+            class: before,
+            tried,
+        };
+    }
+    let class = find_between(table, size, firsts, latest + 1, firsts.len(), values);
+    if class < firsts.len() {
+        // All up to this one, the latest among them.
+        let tried = class + 1;
+        return Found { class, tried };
+    }
+    Found {
+        class,
+        tried: class,
+    }
 }

@@ -9,6 +9,7 @@ mod passing;
 mod plans;
 mod refused;
 mod reports;
+mod searches;
 mod widths;
 
 pub use broken::{broken_lists, BrokenList};
@@ -19,6 +20,7 @@ pub use passing::{passing_images, PassingImage};
 pub use plans::{chosen_plans, refused_plans, ChosenPlan, RefusedPlan};
 pub use refused::{refused_images, RefusedImage};
 pub use reports::{reports, Report};
+pub use searches::{searches, Search};
 pub use widths::{weight_widths, WeightWidth};
 
 use crate::lists::Branch;

@@ -16,7 +16,7 @@ use Rattle.blocks.specs.Laws.Known.{distinct-length}
 use Rattle.blocks.specs.Laws.Blocks.{blocks-count}
 
 module _ (n h : ℕ) (cut : h ≤ n) where
-  lists-length : (table : List ℤ) → length (map differences (blocks n table (n - h))) ≡ 2 ^ h
+  pub lists-length : (table : List ℤ) → length (map differences (blocks n table (n - h))) ≡ 2 ^ h
   lists-length table =
       length-map (blocks n table (n - h)) differences
       ∙ blocks-count n table (n - h)
@@ -47,3 +47,8 @@ module _ (n h : ℕ) (cut : h ≤ n) where
   -- A table of 2^n values has 2^h blocks of 2^(n-h).
   pub cut-whole : 2 ^ h * 2 ^ (n - h) ≡ 2 ^ n
   cut-whole = mul-comm (2 ^ h) (2 ^ (n - h)) ∙ power-split n h cut
+
+-- The rows of all cuts have few places.
+pub places-most : (n : ℕ) → n ≤ 12 → cutPlace (suc n) ≤ 8191
+unfolding cutPlace
+places-most n few = let m = pow-mono {i = suc n} {j = 13} (omega arith) in omega arith

@@ -17,7 +17,9 @@ use Rattle.blocks.specs.Blocks.{block, blocks, differences}
 use Rattle.blocks.specs.Classes.{distinct, classes, classCount}
 use Rattle.blocks.specs.Inner.Layout.{part, numbersOf, firstsOf, cutNumbers, cutFirsts, cutPlace, CutsRoom}
 use Rattle.blocks.specs.Laws.Cuts.{length-cut-numbers, length-cut-firsts, cut-within, cut-whole}
-use Rattle.cuts.specs.Inner.Classing.{CutRoom, CutClassed}
+use Rattle.tries.specs.Tries.{triesOf, cutTries}
+use Rattle.tries.specs.Laws.Rows.{length-cut-tries}
+use Rattle.cuts.specs.Inner.Classing.{cutRows, CutRoom, CutClassed}
 use Rattle.classes.specs.Inner.Placing.{CutPlaced}
 use Rattle.search.specs.Inner.Searching.{partDifferences}
 
@@ -30,15 +32,16 @@ module _ (n h : ℕ) (cut : h ≤ n) where
       ∙ sym (map-map (block table (n - h)) differences (numbersFrom 0 (2 ^ (n - (n - h)))))
 
 -- Cut h of a table with rows for all cuts: its block count and its block size.
-pub record CutAt (n h count size : ℕ) (table : List ℤ) (classRow firstRow : List ℕ) : Type 0 where
+pub record CutAt (n h count size : ℕ) (table : List ℤ) (classRow firstRow triedRow : List ℕ) : Type 0 where
   pub rows : CutsRoom n table classRow firstRow
+  pub triedPlaces : length triedRow ≡ cutPlace (suc n)
   pub cut : h ≤ n
   pub is-count : count ≡ 2 ^ h
   pub is-size : size ≡ 2 ^ (n - h)
 
 -- The parts of the rows that belong to the cut.
-module _ {n h count size : ℕ} {table : List ℤ} {classRow firstRow : List ℕ} (k : CutAt n h count size table classRow firstRow) where
-  open CutAt k using (rows, cut, is-count, is-size)
+module _ {n h count size : ℕ} {table : List ℤ} {classRow firstRow triedRow : List ℕ} (k : CutAt n h count size table classRow firstRow triedRow) where
+  open CutAt k using (rows, triedPlaces, cut, is-count, is-size)
 
   -- The count is small.
   pub count-small : (1 ≤ count) × (count ≤ 4096)
@@ -55,6 +58,9 @@ module _ {n h count size : ℕ} {table : List ℤ} {classRow firstRow : List ℕ
   pub within-firsts : count - 1 + count ≤ length firstRow
   within-firsts = rw (rows .firstPlaces) rows-reach
 
+  pub within-tried : count - 1 + count ≤ length triedRow
+  within-tried = rw triedPlaces rows-reach
+
   abbrev lent : List ℕ → List ℕ
   lent row = take (count - 1 + count - (count - 1)) (drop (count - 1) row)
 
@@ -66,20 +72,22 @@ module _ {n h count size : ℕ} {table : List ℤ} {classRow firstRow : List ℕ
   halved zero other = absurd (other refl)
   halved (suc k) other = let e : 2 ^ suc k ≡ 2 * (2 ^ suc k / 2) = omega (arith, two-pow-succ k) in e
 
-  pub cut-room : CutRoom table size (lent classRow) (lent firstRow)
+  pub cut-room : CutRoom table size (lent classRow) (lent firstRow) (lent triedRow)
   cut-room = record {
     whole = rows .whole ∙ sym (ap₂ _*_ (lent-length classRow within-classes ∙ is-count) is-size ∙ cut-whole n h cut);
-    alike = lent-length firstRow within-firsts ∙ sym (lent-length classRow within-classes);
+    firstsAlike = lent-length firstRow within-firsts ∙ sym (lent-length classRow within-classes);
+    triedAlike = lent-length triedRow within-tried ∙ sym (lent-length classRow within-classes);
     halved = rw (lent-length classRow within-classes, is-count) (halved h);
   }
 
-  pub cut-placed : (found : ℕ) (numbered placed : List ℕ) → CutClassed table size (length (lent classRow)) found numbered placed
-      → CutPlaced n table h classRow firstRow found (putMid (count - 1) (count - 1 + count - (count - 1)) classRow numbered) (putMid (count - 1) (count - 1 + count - (count - 1)) firstRow placed)
-  unfolding cutPlace cutNumbers cutFirsts classCount classes
-  cut-placed found numbered placed c = record {
+  pub cut-placed : (found : ℕ) (numbered placed tries : List ℕ) → CutClassed table size (length (lent classRow)) (cutRows found numbered placed tries)
+      → CutPlaced n table h classRow firstRow triedRow found (putMid (count - 1) (count - 1 + count - (count - 1)) classRow numbered) (putMid (count - 1) (count - 1 + count - (count - 1)) firstRow placed) (putMid (count - 1) (count - 1 + count - (count - 1)) triedRow tries)
+  unfolding cutPlace cutNumbers cutFirsts cutTries classCount classes
+  cut-placed found numbered placed tries c = record {
     counted = c .counted ∙ ap (λ l. length (distinct l)) same-lists;
-    numbered = ap (putMid (count - 1) many classRow) is-numbered ∙ part-back classRow (count - 1) (cutNumbers n table h) many (is-many ∙ sym (length-cut-numbers n h cut table)) ∙ ap (λ k. overwritten classRow (k - 1) (cutNumbers n table h)) is-count;
-    placed = ap (putMid (count - 1) many firstRow) is-placed ∙ part-back firstRow (count - 1) (cutFirsts n table h) many (is-many ∙ sym (length-cut-firsts n h cut table)) ∙ ap (λ k. overwritten firstRow (k - 1) (cutFirsts n table h)) is-count;
+    numbered = put-back classRow numbered (cutNumbers n table h) (length-cut-numbers n h cut table) (c .numbered ∙ ap numbersOf same-lists);
+    placed = put-back firstRow placed (cutFirsts n table h) (length-cut-firsts n h cut table) (c .placed ∙ ap₂ firstsOf blocks-are same-lists);
+    tried = put-back triedRow tries (cutTries n table h) (length-cut-tries n h cut table) (c .tried ∙ ap triesOf same-lists);
   }
     where
       many : ℕ
@@ -94,8 +102,6 @@ module _ {n h count size : ℕ} {table : List ℤ} {classRow firstRow : List ℕ
       same-lists : partDifferences table size (numbersFrom 0 (length (lent classRow))) ≡ map differences (blocks n table (n - h))
       same-lists = ap₂ (λ s b. partDifferences table s (numbersFrom 0 b)) is-size blocks-are ∙ cut-lists-are n h cut table
 
-      is-numbered : numbered ≡ cutNumbers n table h
-      is-numbered = c .numbered ∙ ap numbersOf same-lists
-
-      is-placed : placed ≡ cutFirsts n table h
-      is-placed = c .placed ∙ ap₂ firstsOf blocks-are same-lists
+      -- The cut's own row, back in the row of all cuts.
+      put-back : (row filled new : List ℕ) → length new ≡ 2 ^ h → filled ≡ new → putMid (count - 1) many row filled ≡ overwritten row (2 ^ h - 1) new
+      put-back row filled new l e = ap (putMid (count - 1) many row) e ∙ part-back row (count - 1) new many (is-many ∙ sym l) ∙ ap (λ k. overwritten row (k - 1) new) is-count

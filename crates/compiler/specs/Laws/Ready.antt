@@ -6,12 +6,12 @@ use mathlib.Core.List.{List}
 use native.Mathlib.Nat.{zero-add}
 use native.Mathlib.Omega.{arith}
 use lib.ListN.{length, take}
-use lib.Pow.{pow-mono}
 use lib.IntN.{ℤ}
 use Rattle.numbers.specs.Ranges.{isLimit}
 use Rattle.numbers.specs.Inner.Rows.{overwritten}
 use Rattle.numbers.specs.Laws.Overwriting.{take-overwritten, length-overwritten}
 use Rattle.blocks.specs.Inner.Layout.{cutPlace, allNumbers, allFirsts, allCounts}
+use Rattle.blocks.specs.Laws.Cuts.{places-most}
 use Rattle.blocks.specs.Laws.Places.{length-numbers, length-firsts, length-counts}
 use Rattle.diagram.specs.Accepted.{Accepted}
 use Rattle.cascade.specs.Plan.{Plans}
@@ -28,11 +28,6 @@ use Rattle.placing.specs.Inner.Placing.{TableReady}
 -- The front of a row that was overwritten, and its length.
 front-of : {A : Type 0} (row new : List A) → take (length new) (overwritten row 0 new) ≡ new
 front-of row new = ap (λ k. take k (overwritten row 0 new)) (sym (zero-add (length new))) ∙ take-overwritten row 0 new (omega arith)
-
--- The rows of all cuts have few places.
-places-most : (n : ℕ) → n ≤ 12 → cutPlace (suc n) ≤ 8191
-unfolding cutPlace
-places-most n few = let m = pow-mono {i = suc n} {j = 13} (omega arith) in omega arith
 
 module _ (n : ℕ) (table : List ℤ) (limit : ℕ) (p : Planned) (plans : Plans n table limit p) (count bits : ℕ) (grouped : p .verdict ≡ Grouping count bits) where
   chosen : Chosen n table limit (p .cells) count bits

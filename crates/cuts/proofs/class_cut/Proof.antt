@@ -14,21 +14,27 @@ same-length c = search needs
 same-length-2 : tie.Need-same-length-2
 same-length-2 c = search needs
 
+same-length-3 : tie.Need-same-length-3
+same-length-3 c = search needs
+
 returns : tie.Need-returns
 returns c =
-    let s = c .before .before .before .before .before .before .before .before .before .before in
-    let k = c .before .before .before .before .class-block in
-    one-block (s .args .table .now) (s .args .size) (s .args .classes .now) (s .args .firsts .now) (s .pre) (c .before .before .before .before .before .before .before .if1 .taken)
-    (cutRows (k .result) (k .last .1 .1 .1 .1 .1 .0) (k .last .1 .1 .1 .1 .1 .1 .0)) (k .ensures)
+    let k = c .before .before .before .before .before .before in
+    let s = k .before .before .before .before .before .before .before .before in
+    one-block (s .args .table .now) (s .args .size) (s .args .classes .now) (s .args .firsts .now) (s .args .tried .now) (s .pre) (k .before .before .before .before .if1 .taken)
+    (cutRows (k .class-block .result) (k .class-block .last .1 .1 .1 .1 .1 .0) (k .class-block .last .1 .1 .1 .1 .1 .1 .0) (k .class-block .last .1 .1 .1 .1 .1 .1 .1 .0)) (k .class-block .ensures)
 
 class-cut-below-requires : tie.Need-class-cut-below-requires
 class-cut-below-requires c κs = search needs
 
-same-length-3 : tie.Need-same-length-3
-same-length-3 c = search needs
-
 same-length-4 : tie.Need-same-length-4
 same-length-4 c = search needs
+
+same-length-5 : tie.Need-same-length-5
+same-length-5 c = search needs
+
+same-length-6 : tie.Need-same-length-6
+same-length-6 c = search needs
 
 returns-2 : tie.Need-returns-2
 returns-2 c = search needs
@@ -40,8 +46,10 @@ class-cut-spec =
     class-block-requires
     same-length
     same-length-2
+    same-length-3
     returns
     class-cut-below-requires
-    same-length-3
     same-length-4
+    same-length-5
+    same-length-6
     returns-2)

@@ -2,16 +2,16 @@
 use Prim.Native.Nat.{_+_, _-_, _*_, _/_}
 use mathlib.Core.Path.{sym, _∙_, ap₂}
 use native.Mathlib.Omega.{arith}
-use lib.ListN.{length, take, drop, length-drop}
+use lib.ListN.{length, drop, length-drop}
 use lib.Seq.{length-take-le, take-all}
 use Rattle.cuts.specs.Inner.Classing.{cutRows, blockClassed, halvesClassed}
-use Rattle.cuts.specs.Laws.Halves.{upper-room}
+use Rattle.cuts.specs.Laws.Halves.{lower-room, upper-room}
 use borrow.Author.Needs.{needs}
 use Rattle.cuts.proofs.class_halves.Statement.{statement}
 use Rattle.cuts.proofs.class_halves.Tie as tie
 
 slice-aggregate-lower : tie.Need-slice-aggregate-lower
-slice-aggregate-lower c = let l = c .before .before .before .args .above .now in sym (length-take-le (length l / 2) l (omega arith))
+slice-aggregate-lower c = let l = c .before .before .before .before .args .above .now in sym (length-take-le (length l / 2) l (omega arith))
 
 mul-upper : tie.Need-mul-upper
 mul-upper c = search needs
@@ -29,7 +29,9 @@ mul-class-block : tie.Need-mul-class-block
 mul-class-block c = search needs
 
 class-block-requires : tie.Need-class-block-requires
-class-block-requires c κs = search needs
+class-block-requires c κs =
+    let s = c .before .before .before .before .before .before .before .before in
+    lower-room (s .args .table .now) (s .args .size) (s .args .j) (s .args .above .now) (cutRows (s .args .count) (s .args .classes .now) (s .args .firsts .now) (s .args .tried .now)) (s .pre)
 
 mul-class-block-2 : tie.Need-mul-class-block-2
 mul-class-block-2 c = search needs
@@ -39,10 +41,10 @@ add-class-block c = search needs
 
 class-block-requires-2 : tie.Need-class-block-requires-2
 class-block-requires-2 c κs =
-    let s = c .before .before .before .before .before .before .before .before .before .before .before .before .before in
-    let k = c .before .before .before .before .before .before .class-block in
-    upper-room (s .args .table .now) (s .args .size) (s .args .j) (cutRows (s .args .count) (s .args .classes .now) (s .args .firsts .now)) (s .pre) (take (length (s .args .above .now) / 2) (s .args .above .now))
-    (cutRows (k .result) (k .last .1 .1 .1 .1 .1 .0) (k .last .1 .1 .1 .1 .1 .1 .0)) (k .ensures)
+    let k = c .before .before .before .before .before .before .before .before .before in
+    let s = k .before .before .before .before .before .before .before .before .before in
+    upper-room (s .args .table .now) (s .args .size) (s .args .j) (s .args .above .now) (cutRows (s .args .count) (s .args .classes .now) (s .args .firsts .now) (s .args .tried .now)) (s .pre)
+    (cutRows (k .class-block .result) (k .class-block .last .1 .1 .1 .1 .1 .0) (k .class-block .last .1 .1 .1 .1 .1 .1 .0) (k .class-block .last .1 .1 .1 .1 .1 .1 .1 .0)) (k .class-block .ensures)
 
 same-length : tie.Need-same-length
 same-length c = search needs
@@ -50,13 +52,18 @@ same-length c = search needs
 same-length-2 : tie.Need-same-length-2
 same-length-2 c = search needs
 
+same-length-3 : tie.Need-same-length-3
+same-length-3 c = search needs
+
 returns : tie.Need-returns
 unfolding halvesClassed
 returns c =
-    let a = c .before .before .before .before .before .before .before .before .before .before .before .before .before .before .before .before .before .before .args in
+    let second = c .before .before .before .before .before .before in
+    let first = second .before .before .before .before .before .before .before .before .before .before in
+    let a = first .before .before .before .before .before .before .before .before .before .args in
     let l = a .above .now in
-    c .before .before .before .before .class-block2 .ensures
-    ∙ ap₂ (blockClassed (a .table .now) (a .size) (2 * a .j + 1)) (take-all (length l - length l / 2) (drop (length l / 2) l) (rw length-drop (omega arith))) (c .before .before .before .before .before .before .before .before .before .before .before .class-block .ensures)
+    second .class-block2 .ensures
+    ∙ ap₂ (blockClassed (a .table .now) (a .size) (2 * a .j + 1)) (take-all (length l - length l / 2) (drop (length l / 2) l) (rw length-drop (omega arith))) (first .class-block .ensures)
 
 pub class-halves-spec : {M : Type 1} → statement M
 class-halves-spec =
@@ -74,4 +81,5 @@ class-halves-spec =
     class-block-requires-2
     same-length
     same-length-2
+    same-length-3
     returns)

@@ -12,14 +12,8 @@ use Rattle.numbers.specs.Lists.{padded}
 use Rattle.numbers.specs.Laws.Padding.{take-padded, padded-suc, set-padded}
 use Rattle.blocks.specs.Classes.{numberIn, learn, learnAll, distinct}
 use Rattle.blocks.specs.Inner.Layout.{numbersOf, firstsOf}
-use Rattle.cuts.specs.Inner.Classing.{countNoted, firstsNoted}
+use Rattle.cuts.specs.Inner.Classing.{Classed, countNoted, firstsNoted}
 use Rattle.blocks.specs.Laws.Known.{number-le, number-at, number-append, number-new, learn-known, learn-new, known-or-new, learnAll-append, number-when-met, distinct-known, distinct-length}
-
--- What the rows hold after the first j lists.
-pub record Classed (ds : List (List ℤ)) (j count : ℕ) (numbers firsts : List ℕ) : Type 0 where
-  pub known : count ≡ length (distinct (take j ds))
-  pub numbered : take j numbers ≡ map (numberIn (distinct ds)) (take j ds)
-  pub placed : take j firsts ≡ padded j 0 (map (numberIn ds) (distinct (take j ds)))
 
 pub none-classed : (ds : List (List ℤ)) (numbers firsts : List ℕ) → Classed ds 0 0 numbers firsts
 unfolding distinct learnAll padded

@@ -15,15 +15,13 @@ use Rattle.numbers.specs.Laws.Lists.{length-range, getD-range, getD-map}
 use Rattle.blocks.specs.Blocks.{differences}
 use Rattle.blocks.specs.Classes.{numberIn, distinct}
 use Rattle.blocks.specs.Inner.Layout.{part, firstsOf}
-use Rattle.cuts.specs.Inner.Classing.{CutRows, cutRows, BlockRoom, knownClass, blockClassed, CutRoom, CutClassed, countNoted, firstsNoted}
-use Rattle.search.specs.Inner.Searching.{partDifferences}
-use Rattle.blocks.specs.Laws.Known.{number-at, number-by, Among, distinct-seen}
+use Rattle.cuts.specs.Inner.Classing.{countNoted, firstsNoted, latestClass, CutRows, cutRows, foundKnown, blockClassed, cutLists, Classed, CutSoFar, BlockRoom, CutRoom, CutClassed}
+use Rattle.tries.specs.Tries.{numberTried, triedAt}
+use Rattle.search.specs.Inner.Searching.{partDifferences, foundAmong}
+use Rattle.blocks.specs.Laws.Known.{number-at, number-by, own-distinct, Among, distinct-seen}
 use Rattle.search.specs.Laws.Searching.{length-parts, part-at}
-use Rattle.cuts.specs.Laws.Classing.{Classed, none-classed, before-length, classed-next, known-places, all-classed}
-
--- The differences of all blocks of a cut.
-abbrev pub cutLists : List ℤ → ℕ → ℕ → List (List ℤ)
-cutLists table size count = partDifferences table size (numbersFrom 0 count)
+use Rattle.cuts.specs.Laws.Classing.{none-classed, before-length, classed-next, known-places, all-classed}
+use Rattle.cuts.specs.Laws.Tries.{latest-among, tries-next, all-tried}
 
 pub length-cut-lists : (table : List ℤ) (size count : ℕ) → length (cutLists table size count) ≡ count
 length-cut-lists table size count = length-parts table size (numbersFrom 0 count) ∙ length-range 0 count
@@ -33,13 +31,6 @@ cut-list-at table size count j h =
     part-at table size (numbersFrom 0 count) j (rw length-range h)
     ∙ ap (λ k. differences (part table size k)) (getD-range 0 count j 0 h ∙ zero-add j)
 
--- The rows while j blocks are classed.
-pub record CutSoFar (table : List ℤ) (size count j : ℕ) (rows : CutRows) : Type 0 where
-  pub inside : j ≤ count
-  pub classPlaces : length (rows .classRow) ≡ count
-  pub firstPlaces : length (rows .firstRow) ≡ count
-  pub classed : Classed (cutLists table size count) j (rows .known) (rows .classRow) (rows .firstRow)
-
 pub length-noted : (firstRow : List ℕ) (known j class : ℕ) → length (firstsNoted firstRow known j class) ≡ length firstRow
 unfolding firstsNoted
 length-noted firstRow known j class =
@@ -48,9 +39,16 @@ length-noted firstRow known j class =
     (λ e. rw e (simp length-set))
 
 -- No block is classed yet.
-pub cut-start : (table : List ℤ) (size : ℕ) (classRow firstRow : List ℕ) → CutRoom table size classRow firstRow → CutSoFar table size (length classRow) 0 (cutRows 0 classRow firstRow)
-cut-start table size classRow firstRow room =
-    record { inside = omega arith; classPlaces = refl; firstPlaces = room .alike; classed = none-classed (cutLists table size (length classRow)) classRow firstRow }
+pub cut-start : (table : List ℤ) (size : ℕ) (classRow firstRow triedRow : List ℕ) → CutRoom table size classRow firstRow triedRow → CutSoFar table size (length classRow) 0 (cutRows 0 classRow firstRow triedRow)
+unfolding numbersFrom
+cut-start table size classRow firstRow triedRow room = record {
+  inside = omega arith;
+  classPlaces = refl;
+  firstPlaces = room .firstsAlike;
+  triedPlaces = room .triedAlike;
+  classed = none-classed (cutLists table size (length classRow)) classRow firstRow;
+  tried = refl;
+}
 
 module _ {table : List ℤ} {size count j : ℕ} {rows : CutRows} (s : CutSoFar table size count j rows) (below : j < count) where
   abbrev ds : List (List ℤ)
@@ -87,20 +85,6 @@ module _ {table : List ℤ} {size count j : ℕ} {rows : CutRows} (s : CutSoFar 
   place-at : (k : ℕ) → k < length firsts → getD firsts k 0 ≡ numberIn ds (getD (distinct (take j ds)) k [])
   place-at k h = ap (λ l. getD l k 0) places ∙ getD-map (numberIn ds) (distinct (take j ds)) k [] 0 (rw known-count h)
 
-  -- The known classes' first blocks lie within the table, and the next block has its place.
-  pub cut-block-room : length table ≡ count * size → BlockRoom table size j (rows .known) (rows .classRow) (rows .firstRow)
-  cut-block-room whole = record {
-    known = record {
-      inside = λ k h.
-          let p = known-at k (rw known-count h) .0 in
-          let m = mul-le-mul-right size p in
-          rw (place-at k h) (omega (arith, suc-mul (numberIn ds (getD (distinct (take j ds)) k [])) size));
-    };
-    few = cut-few;
-    inside = rw (s .classPlaces) below;
-    alike = s .firstPlaces ∙ sym (s .classPlaces);
-  }
-
   -- The known classes are the different lists so far.
   cut-known : partDifferences table size firsts ≡ distinct (take j ds)
   cut-known =
@@ -114,37 +98,71 @@ module _ {table : List ℤ} {size count j : ℕ} {rows : CutRows} (s : CutSoFar 
       ∙ sym (cut-list-at table size count (numberIn ds (getD (distinct (take j ds)) k [])) (a .0))
       ∙ a .1)
 
+  -- The known classes are ready for the search, and the next block has its place.
+  pub cut-block-room : length table ≡ count * size → BlockRoom table size j rows
+  cut-block-room whole = record {
+    known = record {
+      parts = record {
+        inside = λ k h.
+            let p = known-at k (rw known-count h) .0 in
+            let m = mul-le-mul-right size p in
+            rw (place-at k h) (omega (arith, suc-mul (numberIn ds (getD (distinct (take j ds)) k [])) size));
+      };
+      apart = λ k h. rw cut-known (own-distinct (take j ds) k (rw known-count h));
+      among = λ some.
+          let k = s .classed .known in
+          let l = known-count in
+          rw (sym known-count, sym k) (latest-among ds (rows .classRow) (rows .firstRow) j (rows .known) below-ds (s .classed) (omega arith));
+    };
+    few = cut-few;
+    inside = rw (s .classPlaces) below;
+    firstsAlike = s .firstPlaces ∙ sym (s .classPlaces);
+    triedAlike = s .triedPlaces ∙ sym (s .classPlaces);
+  }
+
   -- One block more.
   pub cut-next : (values : List ℤ) → values ≡ part table size j → CutSoFar table size count (j + 1) (blockClassed table size j values rows)
-  unfolding blockClassed knownClass
+  unfolding blockClassed foundKnown foundAmong
   cut-next values is =
       let class = numberIn (partDifferences table size firsts) (differences values) in
+      let number = numberTried (length (partDifferences table size firsts)) (latestClass (rows .classRow) j) class in
+      let met : class ≡ numberIn (distinct (take j ds)) (getD ds j []) = ap₂ numberIn cut-known (ap differences is ∙ sym (cut-list-at table size count j below)) in
+      let as-known : rows .known ≡ length (partDifferences table size firsts) = s .classed .known ∙ ap length (sym cut-known) in
       record {
         inside = omega arith;
         classPlaces = length-set (rows .classRow) j class ∙ s .classPlaces;
         firstPlaces = length-noted (rows .firstRow) (rows .known) j class ∙ s .firstPlaces;
+        triedPlaces = length-set (rows .triedRow) j number ∙ s .triedPlaces;
         classed =
             subst (λ n. Classed ds n (countNoted (rows .known) class) (set (rows .classRow) j class) (firstsNoted (rows .firstRow) (rows .known) j class)) (sym (add-one j))
-            (classed-next ds j below-ds (rows .known) (rows .classRow) (rows .firstRow) class (s .classed)
-            (ap₂ numberIn cut-known (ap differences is ∙ sym (cut-list-at table size count j below)))
+            (classed-next ds j below-ds (rows .known) (rows .classRow) (rows .firstRow) class (s .classed) met
             (rw (s .classPlaces) below) (rw (s .firstPlaces) below));
+        tried =
+            ap₂ (λ n k. take n (set (rows .triedRow) j (numberTried k (latestClass (rows .classRow) j) class))) (add-one j) (sym as-known)
+            ∙ tries-next ds (rows .classRow) (rows .firstRow) j (rows .known) (rows .triedRow) below-ds (rw (s .triedPlaces) below) (s .classed) class met (s .tried)
+            ∙ ap (λ n. map (triedAt ds) (numbersFrom 0 n)) (sym (add-one j));
       }
 
-pub cut-done : (table : List ℤ) (size count : ℕ) (rows : CutRows) → CutSoFar table size count count rows → CutClassed table size count (rows .known) (rows .classRow) (rows .firstRow)
+pub cut-done : (table : List ℤ) (size count : ℕ) (rows : CutRows) → CutSoFar table size count count rows → CutClassed table size count rows
 cut-done table size count rows s =
     let ds = cutLists table size count in
     let l = length-cut-lists table size count in
     let a = all-classed ds (rows .known) (rows .classRow) (rows .firstRow) (s .classPlaces ∙ sym l) (s .firstPlaces ∙ sym l) (subst (λ n. Classed ds n (rows .known) (rows .classRow) (rows .firstRow)) (sym l) (s .classed)) in
-    record { counted = a .0; numbered = a .1 .0; placed = a .1 .1 ∙ ap (λ n. firstsOf n ds) l }
+    record {
+      counted = a .0;
+      numbered = a .1 .0;
+      placed = a .1 .1 ∙ ap (λ n. firstsOf n ds) l;
+      tried = all-tried ds (rows .triedRow) (s .triedPlaces ∙ sym l) (subst (λ n. take n (rows .triedRow) ≡ map (triedAt ds) (numbersFrom 0 n)) (sym l) (s .tried));
+    }
 
 -- A cut of one block, the table.
-pub one-block : (table : List ℤ) (size : ℕ) (classRow firstRow : List ℕ) → CutRoom table size classRow firstRow → length classRow ≡ 1 → (rows : CutRows) → rows ≡ blockClassed table size 0 table (cutRows 0 classRow firstRow) → CutClassed table size (length classRow) (rows .known) (rows .classRow) (rows .firstRow)
+pub one-block : (table : List ℤ) (size : ℕ) (classRow firstRow triedRow : List ℕ) → CutRoom table size classRow firstRow triedRow → length classRow ≡ 1 → (rows : CutRows) → rows ≡ blockClassed table size 0 table (cutRows 0 classRow firstRow triedRow) → CutClassed table size (length classRow) rows
 unfolding part
-one-block table size classRow firstRow room one rows is =
+one-block table size classRow firstRow triedRow room one rows is =
     cut-done table size (length classRow) rows
     (subst (λ r. CutSoFar table size (length classRow) (length classRow) r) (sym is)
-    (subst (λ k. CutSoFar table size (length classRow) k (blockClassed table size 0 table (cutRows 0 classRow firstRow))) (sym one)
-    (cut-next (cut-start table size classRow firstRow room) (omega arith) table whole)))
+    (subst (λ k. CutSoFar table size (length classRow) k (blockClassed table size 0 table (cutRows 0 classRow firstRow triedRow))) (sym one)
+    (cut-next (cut-start table size classRow firstRow triedRow room) (omega arith) table whole)))
   where
     whole : table ≡ take size (drop (0 * size) table)
     whole =

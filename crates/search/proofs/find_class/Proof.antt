@@ -1,78 +1,91 @@
--- `search::find_class` meets its contract. The loop's invariant: the known classes before k are passed over. Assumes nothing.
-use Prim.Native.Nat.{_-_, _≤_, _<_}
-use mathlib.Core.Path.{_≡_, sym, _∙_, ap}
-use mathlib.Core.List.{[]}
+-- `search::find_class` meets its contract: the block's class is the latest, or one before it, or one behind it, or new. Assumes nothing.
+use Prim.Native.Nat.{_<_}
+use mathlib.Core.Path.{sym, _∙_}
 use native.Mathlib.Omega.{arith}
-use lib.ListN.{length, getD}
-use borrow.Author.Needs.{scaled-fits}
-use Rattle.blocks.specs.Blocks.{differences}
-use Rattle.blocks.specs.Classes.{same}
-use Rattle.search.specs.Inner.Searching.{partDifferences}
-use Rattle.search.specs.Laws.Searching.{Passed, none-passed, one-passed, found-at, all-passed, length-parts, part-at}
+use lib.ListN.{length}
+use borrow.Author.Needs.{needs}
+use Rattle.search.specs.Laws.Searching.{first-class, latest-known, latest-found, before-found, behind-found, none-found}
 use Rattle.search.proofs.find_class.Statement.{statement}
 use Rattle.search.proofs.find_class.Tie as tie
 
-abbrev Inv-loop : tie.InvT-loop
-Inv-loop table size firsts values k₀ k = (k ≤ length firsts) × Passed (partDifferences table size firsts) (differences values) k
+returns : tie.Need-returns
+returns c = first-class (c .before .before .pre) (c .before .before .args .values .now) (c .if1 .taken)
 
-abbrev μ-loop : tie.MeasureT-loop
-μ-loop table size firsts values k₀ k = length firsts - k
+-- The latest class is known where any is.
+some : (c : tie.Else1) → c .before .before .args .latest < length (c .before .before .args .firsts .now)
+some c = latest-known (c .before .before .pre) (c .before .before .args .values .now) (c .if1 .left)
 
-loop-holds : tie.Need-loop-holds Inv-loop μ-loop
-loop-holds c = (omega arith, none-passed _ _)
+mul-same-part : tie.Need-mul-same-part
+mul-same-part c = let l = some c in search needs
 
-mul-same-part : tie.Need-mul-same-part Inv-loop μ-loop
-mul-same-part c = scaled-fits (c .before .loop .k) (length (c .before .before .before .args .firsts .now)) 8 (let l = c .if1 .left in let w = c .before .loop .inv .0 in omega arith) (c .before .before .before .good .1 .1 .0 .1)
+shared-slice-read-same-part : tie.Need-shared-slice-read-same-part
+shared-slice-read-same-part c = some (c .before)
 
-shared-slice-read-same-part : tie.Need-shared-slice-read-same-part Inv-loop μ-loop
-shared-slice-read-same-part c = let l = c .before .if1 .left in let w = c .before .before .loop .inv .0 in omega arith
+same-part-requires : tie.Need-same-part-requires
+same-part-requires c κs = let s = c .before .before .before in s .pre .parts .inside (s .args .latest) (some (c .before))
 
-same-part-requires : tie.Need-same-part-requires Inv-loop μ-loop
-same-part-requires c κs = c .before .before .before .before .pre .inside (c .before .before .loop .k) (let l = c .before .if1 .left in let w = c .before .before .loop .inv .0 in omega arith)
+-- After the test of the latest class.
+module _ (c : tie.After-same-part) where
+  abbrev start : tie.Start
+  start = c .before .before .before .before
 
--- What the test of class k says of its differences.
-tested : (c : tie.After-same-part Inv-loop μ-loop) → c .before .before .before .loop .k < length (c .before .before .before .before .before .args .firsts .now)
-    → same
-    (getD (partDifferences (c .before .before .before .before .before .args .table .now) (c .before .before .before .before .before .args .size) (c .before .before .before .before .before .args .firsts .now)) (c .before .before .before .loop .k) [])
-    (differences (c .before .before .before .before .before .args .values .now))
-    ≡ c .same-part .result
-tested c l =
-    let a = c .before .before .before .before .before .args in
-    ap (λ d. same d (differences (a .values .now))) (part-at (a .table .now) (a .size) (a .firsts .now) (c .before .before .before .loop .k) l) ∙ sym (c .same-part .ensures)
+  abbrev tests : tie.Else1
+  tests = c .before .before
 
-add-k : tie.Need-add-k Inv-loop μ-loop
-add-k c = omega arith
-
-loop-less : tie.Need-loop-less Inv-loop μ-loop
-loop-less c = let l = c .before .before .before .if1 .left in let w = c .before .before .before .before .loop .inv .0 in omega arith
-
-loop-again : tie.Need-loop-again Inv-loop μ-loop
-loop-again c =
-    let l : c .before .before .before .before .loop .k < length (c .before .before .before .before .before .before .args .firsts .now) = (let t = c .before .before .before .if1 .left in let w = c .before .before .before .before .loop .inv .0 in omega arith) in
-    (omega arith, one-passed _ _ (c .before .before .before .before .loop .k) (rw length-parts l) (tested (c .before) l ∙ c .if2 .left) (c .before .before .before .before .loop .inv .1))
-
-returns : tie.Need-returns Inv-loop μ-loop
-returns c =
-    let a = c .before .before .before .args in
-    sym (c .if1 .taken) ∙ sym (all-passed (partDifferences (a .table .now) (a .size) (a .firsts .now)) (differences (a .values .now)) (c .before .loop .k) (c .if1 .taken ∙ sym (length-parts (a .table .now) (a .size) (a .firsts .now))) (c .before .loop .inv .1))
-
-returns-2 : tie.Need-returns-2 Inv-loop μ-loop
+returns-2 : tie.Need-returns-2
 returns-2 c =
-    let l : c .before .before .before .before .loop .k < length (c .before .before .before .before .before .before .args .firsts .now) = (let t = c .before .before .before .if1 .left in let w = c .before .before .before .before .loop .inv .0 in omega arith) in
-    sym (found-at _ _ (c .before .before .before .before .loop .k) (rw length-parts l) (tested (c .before) l ∙ c .if2 .taken) (c .before .before .before .before .loop .inv .1))
+    let t = c .before in
+    latest-found (start t .pre) (start t .args .values .now) (tests t .if1 .left) (sym (t .same-part .ensures) ∙ c .if2 .taken)
+
+find-between-requires : tie.Need-find-between-requires
+find-between-requires c κs = let t = c .before in let l = some (tests t) in (start t .pre .parts, (omega arith, omega arith))
+
+add-tried : tie.Need-add-tried
+add-tried c = let l = some (tests (c .before .before .before)) in search needs
+
+returns-3 : tie.Need-returns-3
+returns-3 c =
+    let t = c .before .before .before in
+    before-found (start t .pre) (start t .args .values .now) (tests t .if1 .left) (c .before .find-between .result) (c .before .find-between .ensures) (c .if3 .taken)
+
+add-find-between : tie.Need-add-find-between
+add-find-between c = let l = some (tests (c .before .before .before)) in search needs
+
+find-between-requires-2 : tie.Need-find-between-requires-2
+find-between-requires-2 c κs = let t = c .before .before .before in let l = some (tests t) in (start t .pre .parts, (omega arith, omega arith))
+
+add-tried-2 : tie.Need-add-tried-2
+add-tried-2 c = search needs
+
+returns-4 : tie.Need-returns-4
+returns-4 c =
+    let t = c .before .before .before .before .before in
+    behind-found (start t .pre) (start t .args .values .now) (tests t .if1 .left) (c .before .find-between2 .result) (c .before .find-between2 .ensures) (c .if4 .taken)
+
+returns-5 : tie.Need-returns-5
+returns-5 c =
+    let t = c .before .before .before .before .before in
+    none-found (start t .pre) (start t .args .values .now) (tests t .if1 .left)
+    (sym (t .same-part .ensures) ∙ c .before .before .before .before .if2 .left)
+    (let l = c .before .before .if3 .left in let e = c .before .before .before .find-between .ensures in omega arith)
+    (c .before .find-between2 .result)
+    (c .before .find-between2 .ensures)
+    (let l = c .if4 .left in omega arith)
 
 pub find-class-spec : {M : Type 1} → statement M
 find-class-spec =
     tie.close
     (tie.spec
-    Inv-loop
-    μ-loop
-    loop-holds
+    returns
     mul-same-part
     shared-slice-read-same-part
     same-part-requires
-    add-k
-    loop-less
-    loop-again
-    returns
-    returns-2)
+    returns-2
+    find-between-requires
+    add-tried
+    returns-3
+    add-find-between
+    find-between-requires-2
+    add-tried-2
+    returns-4
+    returns-5)

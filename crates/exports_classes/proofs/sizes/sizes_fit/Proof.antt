@@ -57,14 +57,33 @@ returns-4 c =
     let at = c .before .before in
     simp (le-leb _ _ (at .before .before .before .if1 .left), eq-eqb _ _ (values at), eq-eqb _ _ (c .before .if3 .left ∙ places at), ne-eqb _ _ (λ e. c .if4 .taken (e ∙ sym (places at))))
 
-add-result : tie.Need-add-result
-add-result c = search needs
+add-if5 : tie.Need-add-if5
+add-if5 c = search needs
 
 returns-5 : tie.Need-returns-5
 unfolding sizesFit mostVariables
 returns-5 c =
-    let at = c .before .before in
-    simp (le-leb _ _ (at .before .before .before .if1 .left), eq-eqb _ _ (values at), eq-eqb _ _ (c .before .if3 .left ∙ places at), eq-eqb _ _ (c .if4 .left ∙ places at), add-one)
+    let at = c .before .before .before in
+    simp (
+      le-leb _ _ (at .before .before .before .if1 .left),
+      eq-eqb _ _ (values at),
+      eq-eqb _ _ (c .before .before .if3 .left ∙ places at),
+      eq-eqb _ _ (c .before .if4 .left ∙ places at),
+      ne-eqb _ _ (λ e. c .if5 .taken (e ∙ sym (add-one (start at .args .n)))),
+    )
+
+returns-6 : tie.Need-returns-6
+unfolding sizesFit mostVariables
+returns-6 c =
+    let at = c .before .before .before in
+    simp (
+      le-leb _ _ (at .before .before .before .if1 .left),
+      eq-eqb _ _ (values at),
+      eq-eqb _ _ (c .before .before .if3 .left ∙ places at),
+      eq-eqb _ _ (c .before .if4 .left ∙ places at),
+      eq-eqb _ _ (c .if5 .left ∙ add-one (start at .args .n)),
+      places at,
+    )
 
 pub sizes-fit-spec : {M : Type 1} → statement M
 sizes-fit-spec =
@@ -78,5 +97,6 @@ sizes-fit-spec =
     sub-places
     returns-3
     returns-4
-    add-result
-    returns-5)
+    add-if5
+    returns-5
+    returns-6)

@@ -1,15 +1,32 @@
 -- `planner::planning::plan_table` meets its contract. Assumes nothing.
+use Prim.Native.Nat.{_≤_}
+use mathlib.Core.Path.{sym, _∙_}
+use lib.ListN.{length}
+use lib.Seq.{length-take-le}
 use borrow.Author.Needs.{needs}
 use Rattle.numbers.specs.Ranges.{mostVariables}
+use Rattle.blocks.specs.Laws.Cuts.{places-most}
 use Rattle.cascade.specs.Laws.Cells.{variables-most}
 use Rattle.planner.proofs.planning.plan_table.Statement.{statement}
 use Rattle.planner.proofs.planning.plan_table.Tie as tie
 
+-- The row of the numbers tried has room for all cuts.
+few-places : (c : tie.Start) → length (c .args .classes .now) ≤ 8191
+unfolding mostVariables
+few-places c = let r = c .pre in rw (r .classPlaces) (places-most (c .args .n) (variables-most _ _ (r .admitted)))
+
+array-borrow-prefix-tried : tie.Need-array-borrow-prefix-tried
+array-borrow-prefix-tried c = few-places (c .before .before .before .before .before .before)
+
+slice-aggregate-class-cuts : tie.Need-slice-aggregate-class-cuts
+slice-aggregate-class-cuts c = sym (length-take-le _ _ (few-places (c .before .before .before .before .before .before .before)))
+
 class-cuts-requires : tie.Need-class-cuts-requires
 unfolding mostVariables
 class-cuts-requires c κs =
-    let r = c .before .before .before .before .before .before .pre in
-    (record { variables = variables-most _ _ (r .admitted); whole = r .admitted .size; classPlaces = r .classPlaces; firstPlaces = r .firstPlaces }, r .countPlaces)
+    let s = c .before .before .before .before .before .before .before in
+    let r = s .pre in
+    ((record { variables = variables-most _ _ (r .admitted); whole = r .admitted .size; classPlaces = r .classPlaces; firstPlaces = r .firstPlaces }, length-take-le _ _ (few-places s) ∙ r .classPlaces), r .countPlaces)
 
 plan-cuts-requires : tie.Need-plan-cuts-requires
 plan-cuts-requires c κs = search needs
@@ -30,6 +47,8 @@ pub plan-table-spec : {M : Type 1} → statement M
 plan-table-spec =
     tie.close
     (tie.spec
+    array-borrow-prefix-tried
+    slice-aggregate-class-cuts
     class-cuts-requires
     plan-cuts-requires
     same-length

@@ -36,6 +36,7 @@ knownBefore ds j = length (distinct (take j ds))
 unfoldable pub triedAt : List (List ℤ) → ℕ → ℕ
 triedAt ds j = numberTried (knownBefore ds j) (blockClass ds (j - 1)) (blockClass ds j)
 
+-- The numbers tried for all blocks, left to right.
 unfoldable pub triesOf : List (List ℤ) → List ℕ
 triesOf ds = map (triedAt ds) (numbersFrom 0 (length ds))
 

@@ -87,6 +87,18 @@ uint8_t panstrait_run(const uint8_t *image, size_t image_len, size_t x,
                       int32_t *value, size_t *words);
 
 /*
+ * Pair run, for tables of two variables, X and Y of m bits each: 0, and behind
+ * value and words what Run gives at 2^m * X + Y, which is the entry in row X,
+ * column Y of the image's table; else the refusal's number, and both are left
+ * as they were: 16 where m is not 1 to 6, then 11, 12, 13 or 14 as by Run, 13
+ * also, at the image's first command, where its n is not 2 * m, then 17 where
+ * X or Y is not below 2^m.
+ */
+uint8_t panstrait_pair_run(size_t m, const uint8_t *image, size_t image_len,
+                           size_t x, size_t y,
+                           int32_t *value, size_t *words);
+
+/*
  * Expand: 0, and the table buffer holds the value of an image at every X; else
  * the refusal's number (2, 11, 12, 13 or 14), and the buffer is left as it was.
  */

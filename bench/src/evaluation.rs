@@ -1,5 +1,6 @@
 //! Walk, Report, Run and Expand on the largest record list and the largest
-//! images, beside the second program; Report beside Walk, too.
+//! images, beside the second program; Report beside Walk, too, and the pair run
+//! beside Run.
 
 use crate::same_method;
 use crate::timing::{self, black_box};
@@ -69,6 +70,22 @@ fn run(n: usize) {
     );
 }
 
+/// Run at the same Z, of which X and Y are the halves.
+fn pair_run() {
+    let image = longest_image(12);
+    let (x, y) = (X >> 6, X & 0b11_1111);
+    timing::line(
+        &format!("pair run, {} bytes", image.len()),
+        "run",
+        || {
+            let _ = black_box(answers::pair_run(6, black_box(&image), x, y));
+        },
+        || {
+            let _ = black_box(answers::run(black_box(&image), X));
+        },
+    );
+}
+
 /// The table buffers are not cleared between runs: each run writes them whole.
 fn expand() {
     let image = longest_image(12);
@@ -95,5 +112,6 @@ pub fn measure() {
     walk();
     report();
     [6, 9, 12].into_iter().for_each(run);
+    pair_run();
     expand();
 }

@@ -72,6 +72,13 @@ pub fn run(image: &[u8], x: usize) -> Result<Ran, Refusal> {
     answer(number, ran, (value, words), (NUMBER, COUNT))
 }
 
+pub fn pair_run(m: usize, image: &[u8], x: usize, y: usize) -> Result<Ran, Refusal> {
+    let (mut value, mut words) = (NUMBER, COUNT);
+    let number = proved::pair_run(m, image, x, y, &mut value, &mut words);
+    let ran = Ran { value, words };
+    answer(number, ran, (value, words), (NUMBER, COUNT))
+}
+
 pub fn expand(image: &[u8], table: &mut [i32]) -> Result<(), Refusal> {
     answer(proved::expand(image, table), (), (), ())
 }

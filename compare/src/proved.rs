@@ -55,6 +55,15 @@ mod c {
             value: *mut i32,
             words: *mut usize,
         ) -> u8;
+        pub fn panstrait_pair_run(
+            m: usize,
+            image: *const u8,
+            image_len: usize,
+            x: usize,
+            y: usize,
+            value: *mut i32,
+            words: *mut usize,
+        ) -> u8;
         pub fn panstrait_expand(
             image: *const u8,
             image_len: usize,
@@ -180,6 +189,19 @@ pub fn report(
 /// Run: 0 with the value at X and the words read, or the refusal's number.
 pub fn run(image: &[u8], x: usize, value: &mut i32, words: &mut usize) -> u8 {
     unsafe { c::panstrait_run(image.as_ptr(), image.len(), x, value, words) }
+}
+
+/// Pair run: 0 with the value at X and Y and the words read, or the refusal's
+/// number.
+pub fn pair_run(
+    m: usize,
+    image: &[u8],
+    x: usize,
+    y: usize,
+    value: &mut i32,
+    words: &mut usize,
+) -> u8 {
+    unsafe { c::panstrait_pair_run(m, image.as_ptr(), image.len(), x, y, value, words) }
 }
 
 /// Expand: 0 with the table, or the refusal's number.

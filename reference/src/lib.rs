@@ -7,15 +7,17 @@
 //! makes no effort to be fast.
 //!
 //! The layers, lowest first: `refusal`, `ranges` and `widths`; `reader`, which
-//! knows images and no tables, and `lists`, which knows record lists and no
-//! tables; `table` (blocks, classes and the search for them, the node bound);
-//! `diagram`; `grouping`; `compiler`; `listing`.
+//! knows images and no tables, above it `pairs` (images of functions of two
+//! variables), and `lists`, which knows record lists and no tables; `table`
+//! (blocks, classes and the search for them, the node bound); `diagram`;
+//! `grouping`; `compiler`; `listing`.
 
 mod compiler;
 mod diagram;
 mod grouping;
 mod listing;
 mod lists;
+mod pairs;
 mod ranges;
 mod reader;
 mod refusal;
@@ -27,6 +29,7 @@ pub use diagram::{build, Built};
 pub use grouping::{plan, Cell, Planned};
 pub use listing::listing;
 pub use lists::{report, walk, Reported};
+pub use pairs::pair_run;
 pub use reader::{expand, expand_older, run, run_older, Ran};
 pub use refusal::Refusal;
 pub use table::{classes, node_bound, tried};

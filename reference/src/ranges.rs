@@ -6,6 +6,9 @@ const MOST: usize = 12;
 /// The most variables of a table that the listing program lists.
 const MOST_LISTED: usize = 11;
 
+/// The most bits of each variable, where a table has two.
+const MOST_OF_EACH: usize = 6;
+
 /// The numbers of a record in a buffer.
 pub(crate) const RECORD_NUMBERS: usize = 6;
 
@@ -17,6 +20,11 @@ pub(crate) fn size(n: usize) -> bool {
 /// Is n a number of variables the listing program admits?
 pub(crate) fn listed_size(n: usize) -> bool {
     (1..=MOST_LISTED).contains(&n)
+}
+
+/// Is m a number of bits that the paper admits for each of two variables?
+pub(crate) fn pair_size(m: usize) -> bool {
+    (1..=MOST_OF_EACH).contains(&m)
 }
 
 /// Is this an address width, or a limit on one, that the paper admits?

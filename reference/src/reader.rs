@@ -3,7 +3,7 @@
 //! No table or diagram is needed here, only widths: an image is first read
 //! whole into cells, with every check, and only then evaluated. Older images,
 //! whose cells are all signed, have a Run and an Expand of their own: the same
-//! reader by the older width rule.
+//! reader by the older width rule. An image can also be read for a given n.
 
 use crate::ranges;
 use crate::refusal::{
@@ -31,7 +31,7 @@ pub struct Ran {
 }
 
 /// An image that has passed every check.
-struct Image {
+pub(crate) struct Image {
     n: usize,
     offset: i32,
     cells: Vec<Cell>,
@@ -80,20 +80,22 @@ impl Image {
             width_rule,
         };
         let (n, offset) = reader.open()?;
-        let mut cells = Vec::new();
-        let mut variables = n;
-        let mut incoming = 1;
-        while variables > 0 {
-            let cell = reader.cell(variables, incoming)?;
-            variables -= cell.group;
-            incoming = cell.outgoing;
-            cells.push(cell);
-        }
-        reader.end(cells.iter().map(Cell::bits).sum())?;
-        Ok(Image { n, offset, cells })
+        reader.cells_and_end(n, offset)
     }
 
-    fn run(&self, x: usize) -> Result<Ran, Refusal> {
+    /// An image for a given n: any other breaks an operand rule of the opening
+    /// command, so that no byte behind it counts.
+    pub(crate) fn read_for(n: usize, bytes: &[u8]) -> Result<Image, Refusal> {
+        let mut reader = Reader {
+            left: bytes,
+            width_rule: weight_width,
+        };
+        let (own, offset) = reader.open()?;
+        require(own == n, OPERAND)?;
+        reader.cells_and_end(n, offset)
+    }
+
+    pub(crate) fn run(&self, x: usize) -> Result<Ran, Refusal> {
         require(x < 1 << self.n, INPUT)?;
         Ok(self.evaluate(x))
     }
@@ -166,6 +168,21 @@ impl Reader<'_> {
         let offset = i32::from_be_bytes([a, b, c, d]);
         require(ranges::size(n.into()) && ranges::value(offset), OPERAND)?;
         Ok((n.into(), offset))
+    }
+
+    /// The image of which n and the offset are read.
+    fn cells_and_end(&mut self, n: usize, offset: i32) -> Result<Image, Refusal> {
+        let mut cells = Vec::new();
+        let mut variables = n;
+        let mut incoming = 1;
+        while variables > 0 {
+            let cell = self.cell(variables, incoming)?;
+            variables -= cell.group;
+            incoming = cell.outgoing;
+            cells.push(cell);
+        }
+        self.end(cells.iter().map(Cell::bits).sum())?;
+        Ok(Image { n, offset, cells })
     }
 
     /// A cell with its words, while `variables` are left.

@@ -33,6 +33,10 @@ pub(crate) const OPERAND: Refusal = 13;
 pub(crate) const BYTES_AFTER: Refusal = 14;
 /// A part of the domain begins above its end or ends outside the domain.
 pub(crate) const PART: Refusal = 15;
+/// m is outside 1..6.
+pub(crate) const PAIR_SIZE: Refusal = 16;
+/// X or Y is not below 2^m.
+pub(crate) const PAIR_INPUT: Refusal = 17;
 
 /// Goes on if the condition holds, else refuses.
 pub(crate) fn require(condition: bool, refusal: Refusal) -> Result<(), Refusal> {

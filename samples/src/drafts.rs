@@ -171,6 +171,11 @@ pub fn figure_draft() -> Draft {
 pub fn passing(random: &mut Random) -> Draft {
     let most = if random.below(8) == 0 { 12 } else { 6 };
     let n = 1 + random.below(most);
+    passing_of(n, random)
+}
+
+/// An image over n variables that passes every check, of any shape.
+pub fn passing_of(n: usize, random: &mut Random) -> Draft {
     let mut cells = Vec::new();
     let mut left = n;
     let mut incoming = 1;

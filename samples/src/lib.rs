@@ -6,6 +6,7 @@ pub mod cases;
 pub mod drafts;
 pub mod lists;
 pub mod oracle;
+pub mod pairs;
 pub mod signs;
 pub mod tables;
 

@@ -2,6 +2,7 @@
 //! keys of low, high and weight, and by a dynamic programme over the cuts.
 
 use crate::lists::{with_bounds, Branch};
+use crate::pairs::Pair;
 use crate::{Draft, DraftCell};
 use std::cmp::Ordering;
 use std::collections::HashMap;
@@ -77,6 +78,23 @@ pub fn numbers(values: &[i32]) -> Numbers {
     sorted.sort_unstable();
     let sum = sorted.iter().map(|&value| i64::from(value)).sum();
     (sorted.len(), sorted[0], sorted[sorted.len() - 1], sum)
+}
+
+/// What the pair run should answer for an m from 1 to 6, by what Run answers:
+/// another n counts where the first command is whole, and 17 stands for 7.
+pub fn pair_run<T>(
+    m: usize,
+    image: &[u8],
+    (x, y): Pair,
+    run: impl Fn(&[u8], usize) -> Result<T, u8>,
+) -> Result<T, u8> {
+    let opened = image.len() >= 6 && image[0] == 0x56;
+    if opened && usize::from(image[1]) != 2 * m {
+        return Err(13);
+    }
+    let within = (x | y) >> m == 0;
+    let z = if within { x << m | y } else { usize::MAX };
+    run(image, z).map_err(|refusal| if refusal == 7 { 17 } else { refusal })
 }
 
 /// The bits that tell a number of classes apart.

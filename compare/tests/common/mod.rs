@@ -1,9 +1,10 @@
-//! Run and Expand as several test files call them.
+//! Run, the pair run and Expand as several test files call them.
 #![allow(dead_code)]
 
 use panstrait_compare::answers;
 use panstrait_reference as reference;
 use panstrait_reference::{Ran, Refusal};
+use panstrait_samples::pairs::Pair;
 use panstrait_samples::{Cascade, Draft, NUMBER};
 use std::ops::RangeInclusive;
 
@@ -15,6 +16,16 @@ pub fn same_run(image: &[u8], x: usize) -> Result<Ran, Refusal> {
         "X {x}: {answer:?} for {image:02x?}"
     );
     answer
+}
+
+/// Both programs' answers at X and Y, as value and words.
+pub fn same_pair_run(m: usize, image: &[u8], (x, y): Pair) -> Result<(i32, usize), Refusal> {
+    let answer = answers::pair_run(m, image, x, y);
+    assert!(
+        answer == reference::pair_run(m, image, x, y),
+        "m {m}, X {x}, Y {y}: {answer:?} for {image:02x?}"
+    );
+    answer.map(|ran| (ran.value, ran.words))
 }
 
 /// Both programs' answers for a table buffer of so many numbers, compared

@@ -1,9 +1,30 @@
 // The cases of Run and Expand.
 ghost use mathlib.Core.Path.{_≡_};
-ghost use Rattle.image.specs.Run.{expanded};
-ghost use Rattle.case_images.specs.Cases.{expandedIs, runPasses, expandPasses};
+ghost use Rattle.image.specs.Run.{ran, expanded};
+ghost use Rattle.case_images.specs.Cases.{ranIs, runPasses, expandedIs, expandPasses};
 use image::Expanded;
 use image::Ran;
+
+// Whether Run's answer is the expected one.
+pub fn ran_is(refusal: usize, value: i32, words: usize, answer: Ran) -> bool
+    ensures { λ r. ⌜ r ≡ ranIs refusal value words (ran answer) ⌝ }
+{
+    match answer {
+        Ran::Value {
+            value: found,
+            words: read,
+        } => {
+            if refusal != 0 {
+                return false;
+            }
+            if words != read {
+                return false;
+            }
+            found == value
+        }
+        Ran::Refused(number) => refusal == number as usize,
+    }
+}
 
 // Whether Run answers so.
 pub fn run(numbers: &[i32], image: &[i32]) -> bool
@@ -15,19 +36,11 @@ pub fn run(numbers: &[i32], image: &[i32]) -> bool
     }
     case_rows::put_bytes(&mut bytes, image);
     let x = case_rows::size_at(numbers, 1);
+    let answer = runner::run(&bytes[..image.len()], x);
     let refusal = case_rows::size_at(numbers, 2);
-    match runner::run(&bytes[..image.len()], x) {
-        Ran::Value { value, words } => {
-            if refusal != 0 {
-                return false;
-            }
-            if case_rows::size_at(numbers, 4) != words {
-                return false;
-            }
-            case_rows::is_at(numbers, 3, 0, value)
-        }
-        Ran::Refused(number) => refusal == number as usize,
-    }
+    let value = case_rows::number_at(numbers, 3, 0);
+    let words = case_rows::size_at(numbers, 4);
+    ran_is(refusal, value, words, answer)
 }
 
 // Whether Expand's answer is the expected one.

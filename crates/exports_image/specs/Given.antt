@@ -5,13 +5,12 @@ use mathlib.Core.List.{List}
 use lib.ListN.{length}
 use lib.IntN.{ℤ}
 use Rattle.image.specs.Run.{run, expand, expandBuffer}
-use Rattle.results.specs.Results.{resultOf, leftBehind}
+use Rattle.results.specs.Results.{resultOf}
+use Rattle.run_results.specs.Given.{RanGiven}
 
 -- What Run answers and leaves behind its two references.
-pub record RunGiven (image : List ℕ) (x : ℕ) (value : ℤ) (words : ℕ) (result : ℕ) (value′ : ℤ) (words′ : ℕ) : Type 0 where
-  pub answered : result ≡ resultOf (run image x)
-  pub valued : value′ ≡ leftBehind (run image x) (λ r. r .value) value
-  pub counted : words′ ≡ leftBehind (run image x) (λ r. r .words) words
+unfoldable pub RunGiven : List ℕ → ℕ → ℤ → ℕ → ℕ → ℤ → ℕ → Type 0
+RunGiven image x value words result value′ words′ = RanGiven (run image x) value words result value′ words′
 
 -- What Expand answers and leaves in its table buffer.
 pub record ExpandGiven (image : List ℕ) (table : List ℤ) (result : ℕ) (table′ : List ℤ) : Type 0 where

@@ -6,18 +6,7 @@ ghost use Rattle.exports_image.specs.Given.{RunGiven, ExpandGiven};
 pub extern "C" fn panstrait_run(image: &[u8], x: usize, value: &mut i32, words: &mut usize) -> u8
     ensures { λ r. ⌜ RunGiven (now (image .entry)) x (now (value .entry)) (now (words .entry)) r (now (value .exit)) (now (words .exit)) ⌝ }
 {
-    let answer = runner::run(image, x);
-    match answer {
-        image::Ran::Value {
-            value: found,
-            words: read,
-        } => {
-            *value = found;
-            *words = read;
-            0
-        }
-        image::Ran::Refused(number) => number,
-    }
+    run_results::hand_back(runner::run(image, x), value, words)
 }
 
 // Expand: the table of an image, or the refusal's number.

@@ -1,4 +1,5 @@
 -- What inner functions promise and hold.
 pub mod Bounds
 pub mod Evaluation
+pub mod GivenN
 pub mod Kinds

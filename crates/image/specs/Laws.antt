@@ -9,6 +9,7 @@ pub mod Held
 pub mod Images
 pub mod OtherWidths
 pub mod Reading
+pub mod ReadingFor
 pub mod Refusals
 pub mod Rules
 pub mod Running

@@ -166,3 +166,7 @@ start = record { at = 0; n = 0; left = 0; classes = 0; words = 0; group = 0; wid
 -- Reading an image: all its commands, or the first refusal from the left.
 unfoldable pub reading : List ℕ → Answer (List Command)
 reading image = readFrom (suc (length image)) image start
+
+-- Reading an image for a given n: its 0x56 has one rule more, that it carries this n, which is judged before any later byte.
+unfoldable pub readingFor : ℕ → List ℕ → Answer (List Command)
+readingFor n image = andThen (step image start) (λ first. unless (eqb (first .1 .n) n) 13 (reading image))

@@ -8,23 +8,26 @@ use lib.ListN.{length, getD}
 use lib.IntN.{ℤ, pos}
 use lib.Signed.{ltZ}
 use Rattle.numbers.specs.Answers.{accepted, refused, mapAnswer}
+use Rattle.numbers.specs.Ranges.{isVariables, isValue}
 use Rattle.numbers.specs.Theorems.{unsigned-spares-one, signed-stays}
 use Rattle.numbers.specs.Widths.{weightWidth}
 use Rattle.operands.specs.Bytes.{AreBytes}
 use Rattle.image.specs.Cells.{Cell, Card}
 use Rattle.image.specs.Commands.{commandBytes, cardCommands, imageOf, cardOf}
 use Rattle.image.specs.OlderWidths.{withWidth, olderWidth, olderCard, imageTo}
-use Rattle.image.specs.Reader.{reading}
+use Rattle.image.specs.Reader.{step, start, reading, readingFor}
 use Rattle.image.specs.Run.{runCard, run, cardValues, expand, expandBuffer}
 use Rattle.image.specs.WellFormed.{weights, WellFormed}
 use Rattle.image.specs.Laws.Cards.{card-of}
 use Rattle.image.specs.Laws.Images.{image-of-commands, commands-of-card, image-of-card, card-keeps}
 use Rattle.image.specs.Laws.OtherWidths.{other-width, older-image, older-stays}
+use Rattle.image.specs.Laws.ReadingFor.{reading-first-refused, first-refused, other-n, own-n, for-accepted, for-number}
 use Rattle.image.specs.Laws.Refusals.{OfImage, reading-number, run-refuses, expand-refuses, buffer-accepted, buffer-refused}
 use Rattle.image.specs.Laws.Running.{run-refused, expand-refused}
 use Rattle.image.specs.Laws.Words.{card-words, run-of-card, expand-entry}
 use Rattle.image.specs.Laws.Written.{image-read, image-run, image-expand}
 use Rattle.image.specs.declared.Command.{Command}
+use Rattle.image.specs.declared.Command.the-variants as commands
 
 -- ---- an accepted image
 
@@ -101,6 +104,31 @@ card-run = image-run
 
 pub card-expand : (card : Card) → WellFormed card → expand (imageOf card) (2 ^ card .n) ≡ accepted (cardValues card)
 card-expand = image-expand
+
+-- ---- an image for a given n
+
+module _ (n : ℕ) (image : List ℕ) where
+  -- It is accepted, with the same commands, exactly where the image is accepted and has this n.
+  pub read-for : (commands : List Command) → (readingFor n image ≡ accepted commands) ↔ ((reading image ≡ accepted commands) × (cardOf commands .n ≡ n))
+  read-for = for-accepted n image
+
+  -- What is wrong with the first command is told as ever: no byte there, another command, operands cut off, an operand out of range.
+  pub first-command-refused : (k : ℕ) → step image start ≡ refused k → (reading image ≡ refused k) × (readingFor n image ≡ refused k)
+  first-command-refused k h = (reading-first-refused image k h, first-refused n image k h)
+
+  -- Its refusals are the reader's.
+  pub read-for-refused : (k : ℕ) → readingFor n image ≡ refused k → (11 ≤ k) × (k ≤ 14)
+  unfolding OfImage
+  read-for-refused = for-number n image
+
+module _ (n : ℕ) (offset : ℤ) (variables : isVariables n ≡ true) (value : isValue offset ≡ true) (rest : List ℕ) where
+  -- An image that begins with another n is 13, whatever bytes follow its first command, or none.
+  pub another-n-refused : (given : ℕ) → (n ≡ given → ⊥) → readingFor given (commandBytes (commands.Table n offset) ++ rest) ≡ refused 13
+  another-n-refused = other-n n offset variables value rest
+
+  -- One that begins with the given n is read as ever.
+  pub given-n-read-on : readingFor n (commandBytes (commands.Table n offset) ++ rest) ≡ reading (commandBytes (commands.Table n offset) ++ rest)
+  given-n-read-on = own-n n offset variables value rest
 
 -- ---- other widths
 

@@ -3,8 +3,9 @@ ghost use mathlib.Core.Path.{_≡_};
 ghost use Prim.Native.Nat.{_<_};
 ghost use Rattle.numbers.specs.Answers.{mapAnswer};
 ghost use Rattle.image.specs.Inner.Bounds.{WithinBounds, IsDue};
+ghost use Rattle.image.specs.Inner.GivenN.{hasOtherN};
 ghost use Rattle.image.specs.Inner.Kinds.{checked};
-ghost use Rattle.image.specs.Reader.{judged, step, stepped, reading};
+ghost use Rattle.image.specs.Reader.{judged, step, stepped, reading, readingFor};
 use image::Checked;
 use image::Command;
 use image::Place;
@@ -64,4 +65,27 @@ pub fn check(image: &[u8]) -> Checked
             }
         }
     }
+}
+
+// Whether a whole 0x56 stands first and carries another n.
+fn has_other_n(image: &[u8], n: usize) -> bool
+    ensures { λ r. ⌜ r ≡ hasOtherN n (now (image .entry)) ⌝ }
+{
+    if image.len() < 6 {
+        return false;
+    }
+    if operands::byte(image, 0) != 0x56 {
+        return false;
+    }
+    operands::byte(image, 1) != n
+}
+
+// The same check for a given n, which the first command must carry.
+pub fn check_for(image: &[u8], n: usize) -> Checked
+    ensures { λ r. ⌜ checked r ≡ mapAnswer (λ commands. tt) (readingFor n (now (image .entry))) ⌝ }
+{
+    if has_other_n(image, n) {
+        return Checked::Refused(13);
+    }
+    check(image)
 }

@@ -10,7 +10,8 @@ use image::Expanded;
 use image::Ran;
 use reader::reading;
 
-fn run_accepted(image: &[u8], x: usize) -> Ran
+// Run of an image that is known to be accepted: it is not checked again.
+pub fn run_accepted(image: &[u8], x: usize) -> Ran
     requires { ⌜ Accepted (now image) ⌝ }
     ensures { λ r. ⌜ ran r ≡ run (now (image .entry)) x ⌝ }
 {

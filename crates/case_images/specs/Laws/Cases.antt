@@ -3,8 +3,8 @@ use Prim.Native.Nat.{ℕ, _≤_, _<_}
 use mathlib.Core.Path.{_≡_, refl, sym, _∙_, ap, ap₂, subst}
 use mathlib.Core.Bool.{false, _&&_}
 use mathlib.Core.List.{List, map}
-use lib.ListN.{length, replicate, length-replicate}
-use lib.IntN.{ℤ}
+use lib.ListN.{length, getD, replicate, length-replicate}
+use lib.IntN.{ℤ, pos}
 use borrow.Author.Tests.{le-leb, lt-leb}
 use Rattle.numbers.specs.Answers.{Answer, accepted, refused, mapAnswer}
 use Rattle.image.specs.Run.{run, expand, expandBuffer, ran, expanded, Expands}
@@ -21,9 +21,12 @@ module _ (numbers image : List ℤ) where
   run-too-long l = failed _ (lt-leb (length image) 512 l)
 
   -- Run's answer decides.
-  pub run-judged : {x : ℕ} {bytes : List ℕ} (answer : Ran) → length image ≤ 512 → bytes ≡ map byteOf image → x ≡ sizeAt numbers 1 → ran answer ≡ run bytes x → runPasses numbers image ≡ ranIs numbers (ran answer)
+  pub run-judged : {x refusal words : ℕ} {value : ℤ} {bytes : List ℕ} (answer : Ran) → length image ≤ 512 → bytes ≡ map byteOf image → x ≡ sizeAt numbers 1 → refusal ≡ sizeAt numbers 2 → value ≡ getD numbers 3 (pos 0) → words ≡ sizeAt numbers 4 → ran answer ≡ run bytes x → runPasses numbers image ≡ ranIs refusal value words (ran answer)
   unfolding runPasses
-  run-judged answer l e place runs = passed _ (le-leb (length image) 512 l) ∙ ap (ranIs numbers) (sym (runs ∙ ap₂ run e place))
+  run-judged answer l e place told worth read runs =
+      passed _ (le-leb (length image) 512 l)
+      ∙ ap (ranIs (sizeAt numbers 2) (getD numbers 3 (pos 0)) (sizeAt numbers 4)) (sym (runs ∙ ap₂ run e place))
+      ∙ sym (cc (told, worth, read))
 
 -- Only a refusal is told of Expand's answer.
 expanded-mapped : {A B : Type 0} (f : A → B) (numbers : List ℤ) (answer : Answer A) → expandedIs numbers (mapAnswer f answer) ≡ expandedIs numbers answer

@@ -52,11 +52,11 @@ no-width : weightWidth (pos 0 ∷ pos 0 ∷ []) ≡ 0
 unfolding every eqZ
 no-width = weight-width-zero (pos 0 ∷ pos 0 ∷ []) .1 refl
 
-start-width : widthIsLeast start ≡ true
+pub start-width : widthIsLeast start ≡ true
 unfolding widthIsLeast start
 start-width = eq-eqb 0 (weightWidth (pos 0 ∷ pos 0 ∷ [])) (sym no-width)
 
-start-due : due start ≡ reader.table
+pub start-due : due start ≡ reader.table
 unfolding start
 start-due = due-table start refl
 

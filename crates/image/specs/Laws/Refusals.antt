@@ -34,7 +34,7 @@ judged-number image p c =
     (unless-refused OfImage (endsWell image p c) 14 (accepted (c, placeAfter p c)) (omega arith, omega arith)
     (λ k h. not-refused (c, placeAfter p c) k h))
 
-step-number : (image : List ℕ) (p : Place) (k : ℕ) → step image p ≡ refused k → OfImage k
+pub step-number : (image : List ℕ) (p : Place) (k : ℕ) → step image p ≡ refused k → OfImage k
 unfolding step OfImage
 step-number image p =
     unless-refused OfImage (widthIsLeast p) 13 there (omega arith, omega arith)

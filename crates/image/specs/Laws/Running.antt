@@ -25,7 +25,7 @@ use Rattle.image.specs.declared.Expanded.the-variants as expanded-varian
 
 -- ---- what a check says
 
-done-accepted : (answer : Answer (List Command)) → done answer ≡ accepted tt → (commands : List Command) × (answer ≡ accepted commands)
+pub done-accepted : (answer : Answer (List Command)) → done answer ≡ accepted tt → (commands : List Command) × (answer ≡ accepted commands)
 unfolding done
 done-accepted (accepted commands) h = (commands, refl)
 done-accepted (refused k) h = absurd (let z : _≡_ {A = ℕ} 0 1 = cc in omega arith)

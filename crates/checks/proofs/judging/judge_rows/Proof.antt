@@ -32,6 +32,9 @@ expand-requires c κs = search needs
 report-requires : tie.Need-report-requires
 report-requires c κs = search needs
 
+pair-run-requires : tie.Need-pair-run-requires
+pair-run-requires c κs = search needs
+
 returns : tie.Need-returns
 unfolding rowsPass operationsPass
 returns c =
@@ -75,13 +78,19 @@ returns-7 c =
     c .report .ensures ∙ sym (ap (λ k. getD (operationsPass (a .numbers .now) (a .first .now) (a .second .now) (a .third .now)) k false) (sym (c .before .before .size-at .ensures .0) ∙ c .before .match .keys7))
 
 returns-8 : tie.Need-returns-8
-unfolding rowsPass
+unfolding rowsPass operationsPass
 returns-8 c =
+    let a = c .before .before .before .args in
+    c .pair-run .ensures ∙ sym (ap (λ k. getD (operationsPass (a .numbers .now) (a .first .now) (a .second .now) (a .third .now)) k false) (sym (c .before .before .size-at .ensures .0) ∙ c .before .match .keys8))
+
+returns-9 : tie.Need-returns-9
+unfolding rowsPass
+returns-9 c =
     let a = c .before .before .args in
     let r = c .match .rest in
     sym
     (ap (λ k. getD (operationsPass (a .numbers .now) (a .first .now) (a .second .now) (a .third .now)) k false) (sym (c .before .size-at .ensures .0))
-    ∙ other-operation (a .numbers .now) (a .first .now) (a .second .now) (a .third .now) (c .before .size-at .result) (r .0 .0 .0 .0 .0 .0 .1) (r .0 .0 .0 .0 .0 .1) (r .0 .0 .0 .0 .1) (r .0 .0 .0 .1) (r .0 .0 .1) (r .0 .1) (r .1))
+    ∙ other-operation (a .numbers .now) (a .first .now) (a .second .now) (a .third .now) (c .before .size-at .result) (r .0 .0 .0 .0 .0 .0 .0 .1) (r .0 .0 .0 .0 .0 .0 .1) (r .0 .0 .0 .0 .0 .1) (r .0 .0 .0 .0 .1) (r .0 .0 .0 .1) (r .0 .0 .1) (r .0 .1) (r .1))
 
 pub judge-rows-spec : {M : Type 1} → statement M
 judge-rows-spec =
@@ -95,6 +104,7 @@ judge-rows-spec =
     run-requires
     expand-requires
     report-requires
+    pair-run-requires
     returns
     returns-2
     returns-3
@@ -102,4 +112,5 @@ judge-rows-spec =
     returns-5
     returns-6
     returns-7
-    returns-8)
+    returns-8
+    returns-9)

@@ -1,0 +1,3 @@
+-- Laws about the definitions of this crate, which proofs cite.
+pub mod Answers
+pub mod Indices

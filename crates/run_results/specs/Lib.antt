@@ -1,0 +1,3 @@
+-- What comes back of Run's answer through C.
+pub mod Given
+pub mod Laws

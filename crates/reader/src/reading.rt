@@ -67,7 +67,7 @@ pub fn check(image: &[u8]) -> Checked
     }
 }
 
-// Whether a whole 0x56 stands first and carries another n.
+// Whether a whole 0x56 stands first and carries another n: 13, whatever else is wrong with it.
 fn has_other_n(image: &[u8], n: usize) -> bool
     ensures { λ r. ⌜ r ≡ hasOtherN n (now (image .entry)) ⌝ }
 {

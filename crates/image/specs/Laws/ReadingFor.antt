@@ -13,12 +13,12 @@ use Rattle.numbers.specs.Answers.{Answer, accepted, refused, unless, andThen}
 use Rattle.numbers.specs.Laws.Answers.{not-refused, unless-accepted, unless-refused}
 use Rattle.numbers.specs.Laws.Bools.{yes-or-no, both}
 use Rattle.numbers.specs.Laws.Bounds.{value-mag}
+use Rattle.numbers.specs.Ranges.{isVariables, isValue, mostVariables}
 use Rattle.operands.specs.Bytes.{unsignedAt, signedAt}
 use Rattle.operands.specs.Laws.Operands.{unsigned-one}
-use Rattle.numbers.specs.Ranges.{isVariables, isValue, mostVariables}
 use Rattle.image.specs.Commands.{commandBytes, cardCommands, cardOf}
-use Rattle.image.specs.Inner.Kinds.{kindOf, isEnd}
 use Rattle.image.specs.Inner.GivenN.{hasOtherN}
+use Rattle.image.specs.Inner.Kinds.{kindOf, isEnd}
 use Rattle.image.specs.Reader.{dueByte, dueSize, commandAt, keepsRules, placeAfter, endsWell, judged, step, readFrom, start, reading, readingFor}
 use Rattle.image.specs.Laws.Bounds.{variables-most}
 use Rattle.image.specs.Laws.Cards.{start-width, start-due, table-may}

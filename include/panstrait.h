@@ -119,6 +119,18 @@ uint8_t panstrait_plan(size_t n, const int32_t *table, size_t table_len,
                        size_t *count, size_t *bits);
 
 /*
+ * Reach, for a limit that Plan answers with 9: 0, and cuts holds the cuts that
+ * some list of cells within the address limit arrives at from cut 0, cut 0
+ * first and rising, 0 past the last one, count how many there are, and least
+ * the least limit that some grouping fits; else the refusal's number (1, 2, 3
+ * or 8, as by Plan, never 9), and all three are left as they were. Where Plan
+ * answers a grouping they are given too, and cuts holds every cut.
+ */
+uint8_t panstrait_reach(size_t n, const int32_t *table, size_t table_len,
+                        size_t limit,
+                        size_t cuts[13], size_t *count, size_t *least);
+
+/*
  * Compile: 0, and the first bytes of the image buffer hold the table's image,
  * as many as stand behind length; behind nodes stands Build's node count, and
  * cells, count and bits are Plan's; else the refusal's number (1, 2, 3, 8, 9

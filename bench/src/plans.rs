@@ -1,5 +1,5 @@
-//! Plan and Compile, beside the same method in Rust, and Compile beside Build
-//! and Plan.
+//! Plan and Compile, beside the same method in Rust, Compile beside Build and
+//! Plan, and Reach beside Plan.
 
 use crate::same_method::{self, Plan};
 use crate::tables::{self, Named, N};
@@ -18,6 +18,8 @@ struct Rows {
     bits: usize,
     length: usize,
     nodes: usize,
+    cuts: [usize; N + 1],
+    least: usize,
     image: Vec<u8>,
 }
 
@@ -30,6 +32,8 @@ impl Rows {
             bits: 0,
             length: 0,
             nodes: 0,
+            cuts: [0; N + 1],
+            least: 0,
             image: vec![0; 65_536],
         }
     }
@@ -43,6 +47,18 @@ impl Rows {
             &mut self.cells,
             &mut self.count,
             &mut self.bits,
+        );
+        assert_eq!(number, 0);
+    }
+
+    fn reach(&mut self, table: &[i32], limit: usize) {
+        let number = proved::reach(
+            N,
+            table,
+            limit,
+            &mut self.cuts,
+            &mut self.count,
+            &mut self.least,
         );
         assert_eq!(number, 0);
     }
@@ -92,6 +108,20 @@ fn plan(what: &str, table: &[i32], limit: usize) {
     assert!(ours.sizes == sizes);
 }
 
+/// Measured where a grouping fits: every cut is listed.
+fn reach(what: &str, table: &[i32], limit: usize) {
+    let mut ours = Rows::new();
+    let mut other = Rows::new();
+    timing::line(
+        &format!("reach, {what}"),
+        "plan",
+        || ours.reach(black_box(table), limit),
+        || other.plan(black_box(table), limit),
+    );
+    assert!(ours.count == N + 1 && ours.cuts.into_iter().eq(0..=N));
+    assert!(ours.least <= limit);
+}
+
 fn compile(what: &str, table: &[i32], limit: usize) {
     let what = format!("compile, {what}");
     let mut ours = Rows::new();
@@ -126,6 +156,7 @@ fn one(Named { name, table }: &Named) {
         if answers::plan(N, table, limit).is_ok() {
             let what = format!("{name}, limit {limit}");
             plan(&what, table, limit);
+            reach(&what, table, limit);
             compile(&what, table, limit);
         }
     }

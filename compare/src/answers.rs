@@ -2,7 +2,7 @@
 //! value holds a pattern at first, which a refusal must leave.
 
 use crate::proved;
-use panstrait_reference::{Built, Cell, Compiled, Planned, Ran, Refusal, Reported};
+use panstrait_reference::{Built, Cell, Compiled, Planned, Ran, Reached, Refusal, Reported};
 
 /// What is lent for single values before a call.
 const NUMBER: i32 = 0x5EED_1234;
@@ -140,6 +140,17 @@ pub fn plan(n: usize, table: &[i32], limit: usize) -> Result<Planned, Refusal> {
         sizes: sizes.entries(count).to_vec(),
         cells: cells(&row, count),
         bits,
+    })
+}
+
+pub fn reach(n: usize, table: &[i32], limit: usize) -> Result<Reached, Refusal> {
+    let pattern = (Lent::PATTERN, COUNT, COUNT);
+    let (mut cuts, mut count, mut least) = pattern;
+    let number = proved::reach(n, table, limit, &mut cuts.array, &mut count, &mut least);
+    answer(number, (), (cuts, count, least), pattern)?;
+    Ok(Reached {
+        cuts: cuts.entries(count).to_vec(),
+        least,
     })
 }
 

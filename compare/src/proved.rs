@@ -80,6 +80,15 @@ mod c {
             count: *mut usize,
             bits: *mut usize,
         ) -> u8;
+        pub fn panstrait_reach(
+            n: usize,
+            table: *const i32,
+            table_len: usize,
+            limit: usize,
+            cuts: *mut [usize; 13],
+            count: *mut usize,
+            least: *mut usize,
+        ) -> u8;
         pub fn panstrait_compile(
             n: usize,
             table: *const i32,
@@ -232,6 +241,19 @@ pub fn plan(
             bits,
         )
     }
+}
+
+/// Reach: 0 with the cuts arrived at, their count and the least limit that fits,
+/// or the refusal's number.
+pub fn reach(
+    n: usize,
+    table: &[i32],
+    limit: usize,
+    cuts: &mut [usize; 13],
+    count: &mut usize,
+    least: &mut usize,
+) -> u8 {
+    unsafe { c::panstrait_reach(n, table.as_ptr(), table.len(), limit, cuts, count, least) }
 }
 
 /// Compile: 0 with the image, cells, length, node count, cell count and bits,

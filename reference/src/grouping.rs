@@ -38,9 +38,12 @@ pub(crate) struct Cuts<'a> {
 }
 
 impl<'a> Cuts<'a> {
-    fn new(n: usize, table: &'a [i32]) -> Self {
+    /// The cuts of a table, where it and the limit pass Plan's checks.
+    pub(crate) fn checked(n: usize, table: &'a [i32], limit: usize) -> Result<Self, Refusal> {
+        table::check(n, table)?;
+        require(ranges::address_width(limit), LIMIT)?;
         let classes = (0..=n).map(|cut| table::classes(n, table, cut)).collect();
-        Cuts { n, table, classes }
+        Ok(Cuts { n, table, classes })
     }
 
     /// The first block of every class at a cut, by class.
@@ -70,6 +73,12 @@ impl<'a> Cuts<'a> {
         words
     }
 
+    /// The rail width of every cut.
+    pub(crate) fn rail_widths(&self) -> Vec<usize> {
+        let rail = |cut| rail_width(self.first_blocks(cut).len());
+        (0..=self.n).map(rail).collect()
+    }
+
     fn cell(&self, cut: usize, group: usize) -> Cell {
         let weights: Vec<i32> = self.words(cut, group).iter().map(|w| w.weight).collect();
         let incoming = self.first_blocks(cut).len();
@@ -86,14 +95,20 @@ impl<'a> Cuts<'a> {
 
     /// For every cut, the cells that begin there by group; none beyond the limit.
     fn fitting_cells(&self, limit: usize) -> Vec<Vec<Option<Cell>>> {
-        let fitting = |cell: &Cell| rail_width(cell.incoming) + cell.group <= limit;
+        let rails = self.rail_widths();
         let below = |cut: usize| {
+            let fitting = |group| fits(rails[cut], group, limit);
             (1..=self.n - cut)
-                .map(|group| Some(self.cell(cut, group)).filter(fitting))
+                .map(|group| fitting(group).then(|| self.cell(cut, group)))
                 .collect()
         };
         (0..self.n).map(below).collect()
     }
+}
+
+/// Does a cell at a cut of this rail width keep to the address limit?
+pub(crate) fn fits(rail: usize, group: usize, limit: usize) -> bool {
+    rail + group <= limit
 }
 
 /// Plan: the least costly grouping within the address limit.
@@ -107,9 +122,7 @@ pub(crate) fn plan_with_cuts(
     table: &[i32],
     limit: usize,
 ) -> Result<(Cuts<'_>, Planned), Refusal> {
-    table::check(n, table)?;
-    require(ranges::address_width(limit), LIMIT)?;
-    let cuts = Cuts::new(n, table);
+    let cuts = Cuts::checked(n, table, limit)?;
     let planned = choose(&cuts, limit).ok_or(NO_GROUPING)?;
     Ok((cuts, planned))
 }
@@ -138,7 +151,7 @@ fn planned(sizes: Vec<usize>, known: &[Vec<Option<Cell>>]) -> Option<Planned> {
 }
 
 /// All 2^(n-1) groupings, one for each choice among the n-1 inner cuts.
-fn groupings(n: usize) -> impl Iterator<Item = Vec<usize>> {
+pub(crate) fn groupings(n: usize) -> impl Iterator<Item = Vec<usize>> {
     (0..1_usize << (n - 1)).map(move |chosen| grouping(n, chosen))
 }
 

@@ -10,7 +10,7 @@
 //! knows images and no tables, above it `pairs` (images of functions of two
 //! variables), and `lists`, which knows record lists and no tables; `table`
 //! (blocks, classes and the search for them, the node bound); `diagram`;
-//! `grouping`; `compiler`; `listing`.
+//! `grouping`; `reach`; `compiler`; `listing`.
 
 mod compiler;
 mod diagram;
@@ -19,6 +19,7 @@ mod listing;
 mod lists;
 mod pairs;
 mod ranges;
+mod reach;
 mod reader;
 mod refusal;
 mod table;
@@ -30,6 +31,7 @@ pub use grouping::{plan, Cell, Planned};
 pub use listing::listing;
 pub use lists::{report, walk, Reported};
 pub use pairs::pair_run;
+pub use reach::{reach, Reached};
 pub use reader::{expand, expand_older, run, run_older, Ran};
 pub use refusal::Refusal;
 pub use table::{classes, node_bound, tried};

@@ -5,7 +5,7 @@ use crate::lists::{with_bounds, Branch};
 use crate::pairs::Pair;
 use crate::{Draft, DraftCell};
 use std::cmp::Ordering;
-use std::collections::HashMap;
+use std::collections::{BTreeSet, HashMap};
 
 /// The class of every block at a cut, by a map of differences.
 pub fn classes(n: usize, table: &[i32], cut: usize) -> Vec<usize> {
@@ -186,6 +186,32 @@ impl<'a> Cascade<'a> {
                 .min_by_key(|(bits, _)| *bits);
         }
         best.swap_remove(0)
+    }
+
+    /// The cuts that fitting cells arrive at within a limit, from each to those
+    /// below it.
+    pub fn reached(&self, limit: usize) -> Vec<usize> {
+        let mut cuts = BTreeSet::from([0]);
+        for cut in 0..self.n {
+            if cuts.contains(&cut) {
+                let fits = |&group: &usize| self.address_width(cut, group) <= limit;
+                let groups = (1..=self.n - cut).filter(fits);
+                cuts.extend(groups.map(|group| cut + group));
+            }
+        }
+        cuts.into_iter().collect()
+    }
+
+    /// The least limit that fits, from the last cut upwards: a cell and what is
+    /// below it need the greater of what each needs.
+    pub fn least_limit(&self) -> usize {
+        let mut least = vec![0; self.n + 1];
+        for cut in (0..self.n).rev() {
+            let with_rest = |group| self.address_width(cut, group).max(least[cut + group]);
+            let limits = (1..=self.n - cut).map(with_rest);
+            least[cut] = limits.min().expect("a variable is left");
+        }
+        least[0]
     }
 
     /// The image of a grouping.

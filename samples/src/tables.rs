@@ -185,6 +185,37 @@ pub fn class_rows(blocks: usize) -> Vec<Vec<usize>> {
     })
 }
 
+/// A table with these class counts at its cuts: 1 at the first and the last, none
+/// more than twice the one before. Each class k of a cut adds weight k, and its
+/// halves are of the classes 2k and 2k + 1 of the next, modulo the count there.
+pub fn of_class_counts(counts: &[usize]) -> Vec<i32> {
+    let n = counts.len() - 1;
+    of(n, |x| {
+        let (mut class, mut value) = (0, 0);
+        for cut in 0..n {
+            let bit = x >> (n - cut - 1) & 1;
+            value += bit * class;
+            class = (2 * class + bit) % counts[cut + 1];
+        }
+        value as i32
+    })
+}
+
+/// Class counts that a table over n variables can have, of any growth and fall.
+pub fn class_counts(n: usize, random: &mut Random) -> Vec<usize> {
+    let mut counts = vec![1];
+    for cut in 1..n {
+        let most = 2 * counts[cut - 1];
+        counts.push(match random.below(4) {
+            0 => 1 + random.below(most),
+            1 => most / 2,
+            _ => most,
+        });
+    }
+    counts.push(1);
+    counts
+}
+
 /// A table whose blocks of some height are of the class of the block before, of
 /// a new class or of any known one, each more or less often.
 pub fn wandering(n: usize, random: &mut Random) -> Vec<i32> {

@@ -10,18 +10,9 @@ use cascade::Verdict;
 fn verdict_is(numbers: &[i32], verdict: Verdict) -> bool
     ensures { λ r. ⌜ r ≡ verdictIs (now (numbers .entry)) (judgement verdict) ⌝ }
 {
-    let refusal = case_rows::size_at(numbers, 3);
     match verdict {
-        Verdict::Grouping { cells, bits } => {
-            if refusal != 0 {
-                return false;
-            }
-            if case_rows::size_at(numbers, 4) != cells {
-                return false;
-            }
-            case_rows::size_at(numbers, 5) == bits
-        }
-        Verdict::Refused(number) => refusal == number as usize,
+        Verdict::Grouping { cells, bits } => case_rows::two_sizes_are(numbers, cells, bits),
+        Verdict::Refused(number) => case_rows::size_at(numbers, 3) == number as usize,
     }
 }
 

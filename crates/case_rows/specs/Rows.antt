@@ -14,6 +14,10 @@ use Rattle.blocks.specs.Classes.{same}
 unfoldable pub sizeAt : List ℤ → ℕ → ℕ
 sizeAt row at = mag (getD row at (pos 0))
 
+-- The numbers of a case from place 3 on are 0, for no refusal, and two sizes.
+unfoldable pub twoSizesAre : List ℤ → ℕ → ℕ → Bool
+twoSizesAre numbers first second = eqb (sizeAt numbers 3) 0 && (eqb (sizeAt numbers 4) first && eqb (sizeAt numbers 5) second)
+
 -- A number as a byte.
 unfoldable pub byteOf : ℤ → ℕ
 byteOf z = mag z % 256

@@ -6,7 +6,7 @@ ghost use lib.ListN.{length, getD};
 ghost use lib.IntN.{pos};
 ghost use Rattle.numbers.specs.Ranges.{eqZ};
 ghost use Rattle.numbers.specs.Inner.Rows.{overwritten};
-ghost use Rattle.case_rows.specs.Rows.{sizeAt, byteOf, numberLent, byteLent, frontHolds, sizesAre};
+ghost use Rattle.case_rows.specs.Rows.{sizeAt, byteOf, numberLent, byteLent, twoSizesAre, frontHolds, sizesAre};
 
 // What a lent row of numbers holds before the call.
 pub const NUMBER: i32 = -77;
@@ -34,6 +34,19 @@ pub fn is_at(row: &[i32], at: usize, past: i32, number: i32) -> bool
     ensures { λ r. ⌜ r ≡ eqZ number (getD (now (row .entry)) at past) ⌝ }
 {
     number == number_at(row, at, past)
+}
+
+// Whether a case expects no refusal and these two sizes: its numbers from place 3 on.
+pub fn two_sizes_are(numbers: &[i32], first: usize, second: usize) -> bool
+    ensures { λ r. ⌜ r ≡ twoSizesAre (now (numbers .entry)) first second ⌝ }
+{
+    if size_at(numbers, 3) != 0 {
+        return false;
+    }
+    if size_at(numbers, 4) != first {
+        return false;
+    }
+    size_at(numbers, 5) == second
 }
 
 // Whether a lent row holds these numbers, and behind them what it was lent with.

@@ -12,6 +12,7 @@ use Rattle.case_images.specs.Cases.{runPasses, expandPasses}
 use Rattle.case_cascades.specs.Cases.{planPasses, compilePasses}
 use Rattle.case_reports.specs.Cases.{reportPasses}
 use Rattle.case_pairs.specs.Cases.{pairRunPasses}
+use Rattle.case_reach.specs.Cases.{reachPasses}
 
 -- Whether a case passes as one of each operation, by its number; there is none with the number 0.
 unfoldable pub operationsPass : List ℤ → List ℤ → List ℤ → List ℤ → List Bool
@@ -25,6 +26,7 @@ operationsPass numbers first second third =
     ∷ expandPasses numbers first second
     ∷ reportPasses numbers first second
     ∷ pairRunPasses numbers first
+    ∷ reachPasses numbers first second
     ∷ []
 
 -- The first number is that of the operation; no case of another passes.

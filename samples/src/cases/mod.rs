@@ -9,6 +9,7 @@ mod pair_faults;
 mod pairs;
 mod passing;
 mod plans;
+mod reaches;
 mod refused;
 mod reports;
 mod searches;
@@ -22,6 +23,7 @@ pub use pair_faults::{numbers_of_any_size, pair_images, wrong_pairs, wrong_sizes
 pub use pairs::{norm_answer, pair_runs, PairRun, NORM_IMAGE, TWO_BITS, TWO_BITS_IMAGE};
 pub use passing::{passing_images, PassingImage};
 pub use plans::{chosen_plans, refused_plans, ChosenPlan, RefusedPlan};
+pub use reaches::{reaches, Reach, COUNTED, STRIPES};
 pub use refused::{refused_images, RefusedImage};
 pub use reports::{reports, Report};
 pub use searches::{searches, Search};

@@ -35,6 +35,9 @@ report-requires c κs = search needs
 pair-run-requires : tie.Need-pair-run-requires
 pair-run-requires c κs = search needs
 
+reach-requires : tie.Need-reach-requires
+reach-requires c κs = search needs
+
 returns : tie.Need-returns
 unfolding rowsPass operationsPass
 returns c =
@@ -84,13 +87,19 @@ returns-8 c =
     c .pair-run .ensures ∙ sym (ap (λ k. getD (operationsPass (a .numbers .now) (a .first .now) (a .second .now) (a .third .now)) k false) (sym (c .before .before .size-at .ensures .0) ∙ c .before .match .keys8))
 
 returns-9 : tie.Need-returns-9
-unfolding rowsPass
+unfolding rowsPass operationsPass
 returns-9 c =
+    let a = c .before .before .before .args in
+    c .reach .ensures ∙ sym (ap (λ k. getD (operationsPass (a .numbers .now) (a .first .now) (a .second .now) (a .third .now)) k false) (sym (c .before .before .size-at .ensures .0) ∙ c .before .match .keys9))
+
+returns-10 : tie.Need-returns-10
+unfolding rowsPass
+returns-10 c =
     let a = c .before .before .args in
     let r = c .match .rest in
     sym
     (ap (λ k. getD (operationsPass (a .numbers .now) (a .first .now) (a .second .now) (a .third .now)) k false) (sym (c .before .size-at .ensures .0))
-    ∙ other-operation (a .numbers .now) (a .first .now) (a .second .now) (a .third .now) (c .before .size-at .result) (r .0 .0 .0 .0 .0 .0 .0 .1) (r .0 .0 .0 .0 .0 .0 .1) (r .0 .0 .0 .0 .0 .1) (r .0 .0 .0 .0 .1) (r .0 .0 .0 .1) (r .0 .0 .1) (r .0 .1) (r .1))
+    ∙ other-operation (a .numbers .now) (a .first .now) (a .second .now) (a .third .now) (c .before .size-at .result) (r .0 .0 .0 .0 .0 .0 .0 .0 .1) (r .0 .0 .0 .0 .0 .0 .0 .1) (r .0 .0 .0 .0 .0 .0 .1) (r .0 .0 .0 .0 .0 .1) (r .0 .0 .0 .0 .1) (r .0 .0 .0 .1) (r .0 .0 .1) (r .0 .1) (r .1))
 
 pub judge-rows-spec : {M : Type 1} → statement M
 judge-rows-spec =
@@ -105,6 +114,7 @@ judge-rows-spec =
     expand-requires
     report-requires
     pair-run-requires
+    reach-requires
     returns
     returns-2
     returns-3
@@ -113,4 +123,5 @@ judge-rows-spec =
     returns-6
     returns-7
     returns-8
-    returns-9)
+    returns-9
+    returns-10)

@@ -1,0 +1,61 @@
+-- Runs of numbers: what of them passes a test whose front passes, what stands in them, and where the first that passes stands.
+use Prim.Native.Nat.{ℕ, zero, suc, _+_, _≤_, _<_}
+use mathlib.Core.Path.{_≡_, refl, _∙_, ap, ap₂}
+use mathlib.Core.Logic.{_⊎_, inl, inr}
+use mathlib.Core.Bool.{Bool, true, false}
+use mathlib.Core.List.{_∷_, _++_, append-nil, List·Memᴰ, List·Memᴰ·head, List·Memᴰ·tail, List·Memᴰ·cases-cons, List·Memᴰ·not-nil}
+use native.Mathlib.Omega.{arith}
+use lib.ListN.{length, getD}
+use lib.Dec.{eqb}
+use borrow.Author.Tests.{eqb-true, eqb-false}
+use Rattle.numbers.specs.Lists.{numbersFrom, keep, leastFrom}
+use Rattle.numbers.specs.Laws.Bools.{yes-or-no}
+use Rattle.numbers.specs.Laws.Lists.{length-range, getD-range}
+use Rattle.numbers.specs.Laws.Selections.{keep-append, keep-passed, keep-none, range-add}
+
+-- What is kept of a run, where its front passes and the rest does not.
+pub keep-front : (test : ℕ → Bool) (front rest : ℕ) → ((j : ℕ) → j < front → test j ≡ true) → ((j : ℕ) → front ≤ j → j < front + rest → test j ≡ false) → keep test (numbersFrom 0 (front + rest)) ≡ numbersFrom 0 front
+unfolding numbersFrom keep
+keep-front test front rest pass fail =
+    ap (keep test) (range-add 0 front rest)
+    ∙ keep-append test (numbersFrom 0 front) (numbersFrom (0 + front) rest)
+    ∙ ap₂ _++_ (all 0 front (λ j p q. pass j (omega arith))) (keep-none test (numbersFrom (0 + front) rest) 0 none)
+    ∙ append-nil (numbersFrom 0 front)
+  where
+    all : (start count : ℕ) → ((j : ℕ) → start ≤ j → j < start + count → test j ≡ true) → keep test (numbersFrom start count) ≡ numbersFrom start count
+    all start zero passed = refl
+    all start (suc count) passed = keep-passed test start (numbersFrom (suc start) count) (passed start (omega arith) (omega arith)) ∙ ap (λ l. start ∷ l) (all (suc start) count (λ j p q. passed j (omega arith) (omega arith)))
+
+    none : (j : ℕ) → j < length (numbersFrom (0 + front) rest) → test (getD (numbersFrom (0 + front) rest) j 0) ≡ false
+    none j l =
+        let inside : j < rest = rw length-range at l in
+        rw (getD-range (0 + front) rest j 0 inside) (fail (0 + front + j) (omega arith) (omega arith))
+
+-- The numbers of a run.
+pub run-among : (start count h : ℕ) → List·Memᴰ h (numbersFrom start count) → (start ≤ h) × (h < start + count)
+unfolding numbersFrom
+run-among start zero h m = absurd (List·Memᴰ·not-nil m)
+run-among start (suc count) h m = first-or-later (run-among (suc start) count h) (List·Memᴰ·cases-cons m)
+  where
+    first-or-later : (List·Memᴰ h (numbersFrom (suc start) count) → (suc start ≤ h) × (h < suc start + count)) → (h ≡ start) ⊎ List·Memᴰ h (numbersFrom (suc start) count) → (start ≤ h) × (h < start + suc count)
+    first-or-later later (inl e) = (omega arith, omega arith)
+    first-or-later later (inr m) = let r = later m in let p = r .0 in let q = r .1 in (omega arith, omega arith)
+
+pub among-run : (start count h : ℕ) → start ≤ h → h < start + count → List·Memᴰ h (numbersFrom start count)
+unfolding numbersFrom
+among-run start zero h p q = absurd (omega arith)
+among-run start (suc count) h p q =
+    yes-or-no (eqb h start)
+    (λ e. List·Memᴰ·head (eqb-true h start e))
+    (λ e. List·Memᴰ·tail (among-run (suc start) count h (let other : h ≡ start → ⊥ = eqb-false h start e in omega arith) (omega arith)))
+
+-- The first that passes is within so many tries, and it passes unless they end before.
+pub found-within : (test : ℕ → Bool) (tries start : ℕ) → (leastFrom test tries start ≤ start + tries) × (leastFrom test tries start < start + tries → test (leastFrom test tries start) ≡ true)
+unfolding leastFrom
+found-within test zero start = (omega arith, λ l. absurd (omega arith))
+found-within test (suc tries) start =
+    let rest = found-within test tries (suc start) in
+    let most = rest .0 in
+    yes-or-no (test start)
+    (λ e. rw (e, leastFrom) (omega arith, λ l. e))
+    (λ e. rw (e, leastFrom) (omega arith, λ l. rest .1 (omega arith)))

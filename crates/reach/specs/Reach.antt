@@ -1,0 +1,66 @@
+-- Reach: the cuts that fitting cells arrive at from cut 0, and the least address limit that fits.
+use Prim.Native.Nat.{ℕ, suc}
+use mathlib.Core.Path.{_≡_}
+use mathlib.Core.Bool.{Bool}
+use mathlib.Core.List.{List}
+use lib.ListN.{length}
+use lib.Dec.{leb}
+use lib.IntN.{ℤ}
+use Rattle.numbers.specs.Answers.{Answer, accepted, refused, unless, mapAnswer}
+use Rattle.numbers.specs.Lists.{numbersFrom, keep, tally, least, padded}
+use Rattle.numbers.specs.Ranges.{isLimit, mostVariables}
+use Rattle.diagram.specs.Build.{ofTable}
+use Rattle.cascade.specs.Groupings.{groupings, fits}
+use Rattle.cascade.specs.Plan.{entries}
+use Rattle.reach.specs.declared.Reached.{Reached}
+use Rattle.reach.specs.declared.Verdict.{Verdict}
+use Rattle.reach.specs.declared.Verdict.the-variants.{Cuts, Refused}
+
+-- Cut h is arrived at: of the lists of sizes that take the top h variables, at least one has only cells that fit the limit.
+unfoldable pub isReached : ℕ → List ℤ → ℕ → ℕ → Bool
+isReached n table limit h = leb 1 (tally (fits n table limit) (groupings h))
+
+-- The cuts that are arrived at, in rising order.
+unfoldable pub reachedCuts : ℕ → List ℤ → ℕ → List ℕ
+reachedCuts n table limit = keep (isReached n table limit) (numbersFrom 0 (suc n))
+
+-- The least address limit that fits: some list of fitting cells arrives at the bottom cut. With limit n one does.
+unfoldable pub leastLimit : ℕ → List ℤ → ℕ
+leastLimit n table = least (λ limit. isReached n table limit n) n
+
+-- What is found: those cuts, and that limit.
+pub record Found : Type 0 where
+  pub cuts : List ℕ
+  pub limit : ℕ
+
+unfoldable pub found : ℕ → List ℤ → ℕ → Found
+found n table limit = record { cuts = reachedCuts n table limit; limit = leastLimit n table }
+
+-- Reach's answer: Plan's checks in their order, and no 9.
+unfoldable pub reach : ℕ → List ℤ → ℕ → Answer Found
+reach n table limit = ofTable n table (unless (isLimit limit) 8 (accepted (found n table limit)))
+
+-- An array has a place for each cut that a table can have.
+unfoldable pub cutArray : Answer Found → List ℕ
+cutArray answer = padded (suc mostVariables) 0 (entries (λ f. f .cuts) answer)
+
+-- The number of cuts, and the least limit.
+pub record Totals : Type 0 where
+  pub count : ℕ
+  pub limit : ℕ
+
+unfoldable pub totals : Found → Totals
+totals f = record { count = length (f .cuts); limit = f .limit }
+
+unfoldable pub reachAnswer : ℕ → List ℤ → ℕ → Answer Totals
+reachAnswer n table limit = mapAnswer totals (reach n table limit)
+
+-- The answer that a value of the enum stands for.
+unfoldable pub judgement : Verdict → Answer Totals
+judgement (Cuts count limit) = accepted (record { count = count; limit = limit })
+judgement (Refused number) = refused number
+
+-- Reach's promise: its verdict, and what the array beside it holds, 0 past the last cut and all 0 in a refusal.
+pub record Reaches (n : ℕ) (table : List ℤ) (limit : ℕ) (answer : Reached) : Type 0 where
+  pub judged : judgement (answer .verdict) ≡ reachAnswer n table limit
+  pub listed : answer .cuts ≡ cutArray (reach n table limit)

@@ -1,0 +1,3 @@
+-- Laws about the definitions of this crate, which proofs cite.
+pub mod Checks
+pub mod Counts

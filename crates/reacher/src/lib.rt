@@ -1,0 +1,61 @@
+// Reach: the cuts that cells within an address limit arrive at, and the least limit that fits.
+mod counting;
+
+ghost use mathlib.Core.Path.{_≡_};
+ghost use Rattle.diagram.specs.Inner.Checks.{checked};
+ghost use Rattle.reach.specs.Reach.{Reaches};
+ghost use Rattle.reacher.specs.Inner.Counts.{callChecks, refusedReach};
+use diagram::Checked;
+use reach::Reached;
+use reach::Verdict;
+
+// The number of a refusal beside an array of 0.
+fn refused_reach(number: u8) -> Reached
+    ensures { λ r. ⌜ r ≡ refusedReach number ⌝ }
+{
+    Reached {
+        verdict: Verdict::Refused(number),
+        cuts: [0; 13],
+    }
+}
+
+// Plan's checks: those on the table, then that of the limit.
+fn check_call(n: usize, table: &[i32], limit: usize) -> Checked
+    ensures { λ r. ⌜ checked r ≡ callChecks n (now (table .entry)) limit ⌝ }
+{
+    match tables::check_table(n, table) {
+        Checked::Refused(number) => Checked::Refused(number),
+        Checked::Passed => {
+            if !numbers::is_limit(limit) {
+                return Checked::Refused(8);
+            }
+            Checked::Passed
+        }
+    }
+}
+
+// Reach: the cuts and the least limit, from the class counts of all cuts, or a refusal.
+pub fn reach(n: usize, table: &[i32], limit: usize) -> Reached
+    ensures { λ r. ⌜ Reaches n (now (table .entry)) limit r ⌝ }
+{
+    let mut classes = [0usize; 8191];
+    let mut firsts = [0usize; 8191];
+    let mut counts = [0usize; 13];
+    let mut tried = [0usize; 8191];
+    match check_call(n, table, limit) {
+        Checked::Refused(number) => refused_reach(number),
+        Checked::Passed => {
+            let cuts = n + 1;
+            let places = numbers::power(cuts) - 1;
+            classes::class_cuts(
+                n,
+                table,
+                &mut classes[..places],
+                &mut firsts[..places],
+                &mut counts[..cuts],
+                &mut tried[..places],
+            );
+            counting::reach_counts(n, limit, &counts[..cuts])
+        }
+    }
+}

@@ -15,6 +15,7 @@ pub mod Padding
 pub mod Pieces
 pub mod Powers
 pub mod Rows
+pub mod Runs
 pub mod Selections
 pub mod Tallies
 pub mod Widths

@@ -4,4 +4,3 @@ pub mod Beside
 pub mod Narrowest
 pub mod Rails
 pub mod Reached
-pub mod Runs

@@ -37,10 +37,30 @@ module _ (test : ℕ → Bool) where
       at-start-or-later e later (yes p) = rw (← p) e
       at-start-or-later e later (no p) = later (omega arith)
 
+  -- The first is within so many tries, and it passes unless they end before.
+  found-within : (tries start : ℕ) → (leastFrom test tries start ≤ start + tries) × (leastFrom test tries start < start + tries → test (leastFrom test tries start) ≡ true)
+  unfolding leastFrom
+  found-within zero start = (omega arith, λ l. absurd (omega arith))
+  found-within (suc tries) start =
+      let rest = found-within tries (suc start) in
+      let most = rest .0 in
+      yes-or-no (test start)
+      (λ e. rw (found-here tries start e) (omega arith, λ l. e))
+      (λ e. rw (found-later tries start e) (omega arith, λ l. rest .1 (omega arith)))
+
   -- Where the bound passes, so does the least.
   pub least-passes : (bound : ℕ) → test bound ≡ true → test (least test bound) ≡ true
   unfolding least
   least-passes bound h = found-passes bound 0 (rw zero-add h)
+
+  -- It is at most the bound; below it, it passes.
+  pub least-bounded : (bound : ℕ) → least test bound ≤ bound
+  unfolding least
+  least-bounded bound = let most = found-within bound 0 .0 in omega arith
+
+  pub least-under : (bound : ℕ) → least test bound < bound → test (least test bound) ≡ true
+  unfolding least
+  least-under bound h = found-within bound 0 .1 (omega arith)
 
   pub below-least : (bound k : ℕ) → k < least test bound → test k ≡ false
   unfolding least

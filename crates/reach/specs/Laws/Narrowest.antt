@@ -5,11 +5,9 @@ use native.Mathlib.Nat.{le-trans, le-of-lt, le-max-left, le-max-right, max-le, m
 use native.Mathlib.Omega.{arith}
 use lib.Dec.{ltb}
 use borrow.Author.Tests.{ltb-true, ltb-false}
-use Rattle.numbers.specs.Lists.{least}
 use Rattle.numbers.specs.Laws.Bools.{yes-or-no}
-use Rattle.numbers.specs.Laws.Least.{below-least}
+use Rattle.numbers.specs.Laws.Least.{below-least, least-bounded, least-under}
 use Rattle.reach.specs.Inner.Narrowest.{furthest, widestAbove}
-use Rattle.reach.specs.Laws.Runs.{found-within}
 
 -- ---- the furthest cut
 
@@ -21,13 +19,13 @@ module _ (address : ℕ → ℕ) (limit n : ℕ) where
 
   -- It is the bottom cut or one above.
   pub furthest-cut : furthest address limit n ≤ n
-  unfolding furthest least
-  furthest-cut = let most = found-within (λ h. ltb limit (address h)) n 0 .0 in omega arith
+  unfolding furthest
+  furthest-cut = least-bounded (λ h. ltb limit (address h)) n
 
   -- From it, where it is not the bottom cut, the narrowest cell is too wide.
   pub too-wide-at : furthest address limit n < n → limit < address (furthest address limit n)
-  unfolding furthest least
-  too-wide-at l = ltb-true limit _ (found-within (λ h. ltb limit (address h)) n 0 .1 (omega arith))
+  unfolding furthest
+  too-wide-at l = ltb-true limit _ (least-under (λ h. ltb limit (address h)) n l)
 
   -- It is the cut above which the narrowest cell fits, and from which it does not or which is the bottom one.
   pub furthest-is : (h : ℕ) → h ≤ n → ((c : ℕ) → c < h → address c ≤ limit) → (h < n → limit < address h) → h ≡ furthest address limit n

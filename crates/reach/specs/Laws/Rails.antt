@@ -1,17 +1,14 @@
 -- A variable more at most doubles the classes, so that rails grow by one at most from cut to cut.
-use Prim.Native.Nat.{ℕ, zero, suc, _+_, _-_, _*_, _/_, _%_, _^_, _≤_, _<_}
-use mathlib.Core.Path.{_≡_, sym, _∙_, ap}
-use mathlib.Core.Bool.{cond}
+use Prim.Native.Nat.{ℕ, _+_, _-_, _*_, _/_, _%_, _^_, _≤_, _<_}
+use mathlib.Core.Path.{_≡_, _∙_, ap}
 use mathlib.Core.List.{List}
 use native.Mathlib.Nat.{le-trans, mod-lt, div-add-mod', div-lt-iff-lt-mul, mul-le-mul-right}
 use native.Mathlib.Omega.{arith}
 use lib.ListN.{length, getD}
-use lib.Dec.{ltb}
 use lib.Pow.{pow-pos, pow-add}
 use lib.IntN.{ℤ}
-use borrow.Author.Tests.{lt-ltb, le-ltb, ltb-true, ltb-false}
-use Rattle.numbers.specs.Laws.Bools.{yes-or-no}
 use Rattle.numbers.specs.Laws.Powers.{part-room}
+use Rattle.numbers.specs.Laws.Runs.{all-met}
 use Rattle.numbers.specs.Laws.Widths.{rail-width-tells, rail-width-least}
 use Rattle.blocks.specs.Blocks.{block}
 use Rattle.blocks.specs.Classes.{classCount, classOf, railAt}
@@ -19,29 +16,6 @@ use Rattle.blocks.specs.Laws.Classes.{class-below, class-used}
 use Rattle.image.specs.WellFormed.{noWord}
 use Rattle.cascade.specs.Cascade.{wordsOf}
 use Rattle.cascade.specs.Laws.Words.{word-of-block, word-class}
-
--- Where each number below a is met among b places, a is at most b.
-pub all-met : (b a : ℕ) (f : ℕ → ℕ) → ((c : ℕ) → c < a → (k : ℕ) × ((k < b) × (f k ≡ c))) → a ≤ b
-all-met zero zero f met = omega arith
-all-met zero (suc a) f met = let none = met 0 (omega arith) .1 .0 in absurd (omega arith)
-all-met (suc b) zero f met = omega arith
-all-met (suc b) (suc a) f met = let rest = all-met b a closed met-still in omega arith
-  where
-    -- The numbers without the last place's, the later ones moved up.
-    closed : ℕ → ℕ
-    closed k = cond (ltb (f b) (f k)) (f k - 1) (f k)
-
-    moved : (c : ℕ) → c < a → (o : ℕ) → (o < suc a) → (o ≡ f b → ⊥) → ((k : ℕ) → f k ≡ o → closed k ≡ c) → (k : ℕ) × ((k < b) × (closed k ≡ c))
-    moved c l o lo other back =
-        let m = met o lo in
-        let here = m .1 .0 in
-        (m .0, ((let q : m .0 ≡ b → ⊥ = (λ e. other (sym (m .1 .1) ∙ ap f e)) in omega arith), back (m .0) (m .1 .1)))
-
-    met-still : (c : ℕ) → c < a → (k : ℕ) × ((k < b) × (closed k ≡ c))
-    met-still c l =
-        yes-or-no (ltb c (f b))
-        (λ t. let under = ltb-true c (f b) t in moved c l c (omega arith) (λ e. omega arith) (λ k e. rw (le-ltb (f b) (f k) (omega arith)) e))
-        (λ t. let over = ltb-false c (f b) t in moved c l (suc c) (omega arith) (λ e. omega arith) (λ k e. rw (lt-ltb (f b) (f k) (omega arith)) (omega arith)))
 
 module _ (n : ℕ) (table : List ℤ) (size : length table ≡ 2 ^ n) (h g : ℕ) (ends : h + g ≤ n) where
   -- Every class where a cell ends is the class of one of its words.

@@ -13,6 +13,7 @@ use borrow.Author.Tests.{leb-true, le-leb, ltb-true, ltb-false, eqb-true}
 use Rattle.numbers.specs.Lists.{numbersFrom, keep, tally}
 use Rattle.numbers.specs.Laws.Bools.{yes-or-no, both, and-both}
 use Rattle.numbers.specs.Laws.Least.{least-passes, below-least, least-le}
+use Rattle.numbers.specs.Laws.Runs.{keep-front, run-among, among-run}
 use Rattle.numbers.specs.Laws.Selections.{among-kept, kept-among}
 use Rattle.blocks.specs.Classes.{railAt}
 use Rattle.cascade.specs.Groupings.{groupings, addressWidth, fitsFrom, fits, isGrouping}
@@ -22,7 +23,6 @@ use Rattle.reach.specs.Reach.{isReached, reachedCuts, leastLimit}
 use Rattle.reach.specs.Inner.Narrowest.{furthest, widestAbove}
 use Rattle.reach.specs.Laws.Narrowest.{fits-above, furthest-cut, too-wide-at, none-wider, widest-least}
 use Rattle.reach.specs.Laws.Rails.{rail-grows}
-use Rattle.reach.specs.Laws.Runs.{keep-front, run-among, among-run}
 
 -- ---- some list of fitting cells
 

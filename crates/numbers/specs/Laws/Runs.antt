@@ -1,17 +1,17 @@
--- Runs of numbers: what of them passes a test whose front passes, what stands in them, and where the first that passes stands.
-use Prim.Native.Nat.{ℕ, zero, suc, _+_, _≤_, _<_}
-use mathlib.Core.Path.{_≡_, refl, _∙_, ap, ap₂}
+-- Runs of numbers: what of them passes a test whose front passes, what stands in them, and how many places it takes to meet them all.
+use Prim.Native.Nat.{ℕ, zero, suc, _+_, _-_, _≤_, _<_}
+use mathlib.Core.Path.{_≡_, refl, sym, _∙_, ap, ap₂}
 use mathlib.Core.Logic.{_⊎_, inl, inr}
-use mathlib.Core.Bool.{Bool, true, false}
+use mathlib.Core.Bool.{Bool, true, false, cond}
 use mathlib.Core.List.{_∷_, _++_, append-nil, List·Memᴰ, List·Memᴰ·head, List·Memᴰ·tail, List·Memᴰ·cases-cons, List·Memᴰ·not-nil}
 use native.Mathlib.Omega.{arith}
 use lib.ListN.{length, getD}
-use lib.Dec.{eqb}
-use borrow.Author.Tests.{eqb-true, eqb-false}
-use Rattle.numbers.specs.Lists.{numbersFrom, keep, leastFrom}
+use lib.Dec.{eqb, ltb}
+use borrow.Author.Tests.{eqb-true, eqb-false, ltb-true, ltb-false, lt-ltb, le-ltb}
+use Rattle.numbers.specs.Lists.{numbersFrom, keep}
 use Rattle.numbers.specs.Laws.Bools.{yes-or-no}
 use Rattle.numbers.specs.Laws.Lists.{length-range, getD-range}
 use Rattle.numbers.specs.Laws.Selections.{keep-append, keep-passed, keep-none, range-add}
 
 -- What is kept of a run, where its front passes and the rest does not.
 pub keep-front : (test : ℕ → Bool) (front rest : ℕ) → ((j : ℕ) → j < front → test j ≡ true) → ((j : ℕ) → front ≤ j → j < front + rest → test j ≡ false) → keep test (numbersFrom 0 (front + rest)) ≡ numbersFrom 0 front
@@ -49,13 +49,25 @@ among-run start (suc count) h p q =
     (λ e. List·Memᴰ·head (eqb-true h start e))
     (λ e. List·Memᴰ·tail (among-run (suc start) count h (let other : h ≡ start → ⊥ = eqb-false h start e in omega arith) (omega arith)))
 
--- The first that passes is within so many tries, and it passes unless they end before.
-pub found-within : (test : ℕ → Bool) (tries start : ℕ) → (leastFrom test tries start ≤ start + tries) × (leastFrom test tries start < start + tries → test (leastFrom test tries start) ≡ true)
-unfolding leastFrom
-found-within test zero start = (omega arith, λ l. absurd (omega arith))
-found-within test (suc tries) start =
-    let rest = found-within test tries (suc start) in
-    let most = rest .0 in
-    yes-or-no (test start)
-    (λ e. rw (e, leastFrom) (omega arith, λ l. e))
-    (λ e. rw (e, leastFrom) (omega arith, λ l. rest .1 (omega arith)))
+-- Where each number below a is met among b places, a is at most b.
+pub all-met : (b a : ℕ) (f : ℕ → ℕ) → ((c : ℕ) → c < a → (k : ℕ) × ((k < b) × (f k ≡ c))) → a ≤ b
+all-met zero zero f met = omega arith
+all-met zero (suc a) f met = let none = met 0 (omega arith) .1 .0 in absurd (omega arith)
+all-met (suc b) zero f met = omega arith
+all-met (suc b) (suc a) f met = let rest = all-met b a closed met-still in omega arith
+  where
+    -- The numbers without the last place's, the later ones moved up.
+    closed : ℕ → ℕ
+    closed k = cond (ltb (f b) (f k)) (f k - 1) (f k)
+
+    moved : (c : ℕ) → c < a → (o : ℕ) → (o < suc a) → (o ≡ f b → ⊥) → ((k : ℕ) → f k ≡ o → closed k ≡ c) → (k : ℕ) × ((k < b) × (closed k ≡ c))
+    moved c l o lo other back =
+        let m = met o lo in
+        let here = m .1 .0 in
+        (m .0, ((let q : m .0 ≡ b → ⊥ = (λ e. other (sym (m .1 .1) ∙ ap f e)) in omega arith), back (m .0) (m .1 .1)))
+
+    met-still : (c : ℕ) → c < a → (k : ℕ) × ((k < b) × (closed k ≡ c))
+    met-still c l =
+        yes-or-no (ltb c (f b))
+        (λ t. let under = ltb-true c (f b) t in moved c l c (omega arith) (λ e. omega arith) (λ k e. rw (le-ltb (f b) (f k) (omega arith)) e))
+        (λ t. let over = ltb-false c (f b) t in moved c l (suc c) (omega arith) (λ e. omega arith) (λ k e. rw (lt-ltb (f b) (f k) (omega arith)) (omega arith)))

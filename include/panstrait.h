@@ -131,6 +131,28 @@ uint8_t panstrait_reach(size_t n, const int32_t *table, size_t table_len,
                         size_t cuts[13], size_t *count, size_t *least);
 
 /*
+ * Sum, of n weights, weight j belonging to bit x(j): 0, and the table buffer
+ * holds at every X the sum of the weights whose bits are 1; else the refusal's
+ * number, and the buffer is left as it was: 1 for n, 2 where there are not n
+ * weights, 3 for a weight out of the values' range, 18 where some sum is out of
+ * it, and last 2 where the buffer has not 2^n numbers. The table's node count is
+ * 1 plus the number of weights that are not 0.
+ */
+uint8_t panstrait_sum(size_t n, const int32_t *weights, size_t weights_len,
+                      int32_t *table, size_t table_len);
+
+/*
+ * Remainder, likewise: 0, and the table buffer holds the sums' remainders by
+ * 2^q, which are 0 to 2^q - 1, also of sums that are negative or out of the
+ * values' range; else the refusal's number (1, 2, 3, then 19 where q is not 1
+ * to 11, and last 2), and the buffer is left as it was. With the address limit
+ * q + 1 Plan answers a grouping of the table.
+ */
+uint8_t panstrait_remainder(size_t n,
+                            const int32_t *weights, size_t weights_len,
+                            size_t q, int32_t *table, size_t table_len);
+
+/*
  * Compile: 0, and the first bytes of the image buffer hold the table's image,
  * as many as stand behind length; behind nodes stands Build's node count, and
  * cells, count and bits are Plan's; else the refusal's number (1, 2, 3, 8, 9

@@ -9,6 +9,7 @@ mod diagrams;
 mod evaluation;
 mod plans;
 mod same_method;
+mod sums;
 mod tables;
 mod timing;
 
@@ -17,4 +18,5 @@ fn main() {
     diagrams::measure();
     plans::measure();
     evaluation::measure();
+    sums::measure();
 }

@@ -7,7 +7,7 @@ use std::f64::consts::PI;
 pub const N: usize = 12;
 
 /// Weights in no order, of both signs.
-const WEIGHTS: [i32; N] = [
+pub const WEIGHTS: [i32; N] = [
     7, -40, 1_000, 3, -2, 99_999, -650_000, 12, 800, -31, 4_096, 5,
 ];
 

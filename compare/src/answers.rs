@@ -181,3 +181,11 @@ pub fn compile(
         bits,
     })
 }
+
+pub fn sum(n: usize, weights: &[i32], table: &mut [i32]) -> Result<(), Refusal> {
+    answer(proved::sum(n, weights, table), (), (), ())
+}
+
+pub fn remainder(n: usize, weights: &[i32], q: usize, table: &mut [i32]) -> Result<(), Refusal> {
+    answer(proved::remainder(n, weights, q, table), (), (), ())
+}

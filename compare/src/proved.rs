@@ -102,6 +102,21 @@ mod c {
             count: *mut usize,
             bits: *mut usize,
         ) -> u8;
+        pub fn panstrait_sum(
+            n: usize,
+            weights: *const i32,
+            weights_len: usize,
+            table: *mut i32,
+            table_len: usize,
+        ) -> u8;
+        pub fn panstrait_remainder(
+            n: usize,
+            weights: *const i32,
+            weights_len: usize,
+            q: usize,
+            table: *mut i32,
+            table_len: usize,
+        ) -> u8;
     }
 }
 
@@ -283,6 +298,33 @@ pub fn compile(
             nodes,
             count,
             bits,
+        )
+    }
+}
+
+/// Sum: 0 with the table, or the refusal's number.
+pub fn sum(n: usize, weights: &[i32], table: &mut [i32]) -> u8 {
+    unsafe {
+        c::panstrait_sum(
+            n,
+            weights.as_ptr(),
+            weights.len(),
+            table.as_mut_ptr(),
+            table.len(),
+        )
+    }
+}
+
+/// Remainder: 0 with the table, or the refusal's number.
+pub fn remainder(n: usize, weights: &[i32], q: usize, table: &mut [i32]) -> u8 {
+    unsafe {
+        c::panstrait_remainder(
+            n,
+            weights.as_ptr(),
+            weights.len(),
+            q,
+            table.as_mut_ptr(),
+            table.len(),
         )
     }
 }

@@ -8,9 +8,10 @@
 //!
 //! The layers, lowest first: `refusal`, `ranges` and `widths`; `reader`, which
 //! knows images and no tables, above it `pairs` (images of functions of two
-//! variables), and `lists`, which knows record lists and no tables; `table`
-//! (blocks, classes and the search for them, the node bound); `diagram`;
-//! `grouping`; `reach`; `compiler`; `listing`.
+//! variables), and `lists`, which knows record lists and no tables; `sums`,
+//! which makes tables of weights; `table` (blocks, classes and the search for
+//! them, the node bound); `diagram`; `grouping`; `reach`; `compiler`;
+//! `listing`.
 
 mod compiler;
 mod diagram;
@@ -22,6 +23,7 @@ mod ranges;
 mod reach;
 mod reader;
 mod refusal;
+mod sums;
 mod table;
 mod widths;
 
@@ -34,5 +36,6 @@ pub use pairs::pair_run;
 pub use reach::{reach, Reached};
 pub use reader::{expand, expand_older, run, run_older, Ran};
 pub use refusal::Refusal;
+pub use sums::{remainder, sum};
 pub use table::{classes, node_bound, tried};
 pub use widths::{rail_width, weight_width};

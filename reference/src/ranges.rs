@@ -9,6 +9,9 @@ const MOST_LISTED: usize = 11;
 /// The most bits of each variable, where a table has two.
 const MOST_OF_EACH: usize = 6;
 
+/// The most bits of a remainder.
+const MOST_REMAINDER_BITS: usize = 11;
+
 /// The numbers of a record in a buffer.
 pub(crate) const RECORD_NUMBERS: usize = 6;
 
@@ -27,14 +30,20 @@ pub(crate) fn pair_size(m: usize) -> bool {
     (1..=MOST_OF_EACH).contains(&m)
 }
 
+/// Is q a number of bits that the paper admits for a remainder?
+pub(crate) fn remainder_bits(q: usize) -> bool {
+    (1..=MOST_REMAINDER_BITS).contains(&q)
+}
+
 /// Is this an address width, or a limit on one, that the paper admits?
 pub(crate) fn address_width(width: usize) -> bool {
     (1..=MOST).contains(&width)
 }
 
-/// Is this a value a table may hold, and so also an offset?
-pub(crate) fn value(value: i32) -> bool {
-    (-8_388_608..=8_388_607).contains(&value)
+/// Is this a value a table may hold, and so also an offset, and a weight of a
+/// sum?
+pub(crate) fn value(value: impl Into<i64>) -> bool {
+    (-8_388_608..=8_388_607).contains(&value.into())
 }
 
 /// Is this a weight that two table values can differ by?

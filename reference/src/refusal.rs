@@ -5,9 +5,9 @@ pub type Refusal = u8;
 
 /// n is outside 1..12, or 1..11 for the listing program.
 pub(crate) const SIZE: Refusal = 1;
-/// A table's length is not 2^n.
+/// A table's length is not 2^n, or a weight list's not n.
 pub(crate) const TABLE_LENGTH: Refusal = 2;
-/// A table holds a value out of range.
+/// A table or a weight list holds a value out of range.
 pub(crate) const TABLE_VALUE: Refusal = 3;
 /// The node buffer could not hold the largest diagram of n variables.
 pub(crate) const NODE_BUFFER: Refusal = 4;
@@ -37,6 +37,10 @@ pub(crate) const PART: Refusal = 15;
 pub(crate) const PAIR_SIZE: Refusal = 16;
 /// X or Y is not below 2^m.
 pub(crate) const PAIR_INPUT: Refusal = 17;
+/// Some sum of weights is out of the values' range.
+pub(crate) const SUM: Refusal = 18;
+/// q is outside 1..11.
+pub(crate) const REMAINDER_BITS: Refusal = 19;
 
 /// Goes on if the condition holds, else refuses.
 pub(crate) fn require(condition: bool, refusal: Refusal) -> Result<(), Refusal> {

@@ -1,6 +1,6 @@
-//! What the tests and the benchmarks are tried on: tables, record lists, images
-//! by hand, and the paper's definitions once more, in other ways than the second
-//! program's.
+//! What the tests and the benchmarks are tried on: tables, record lists, weight
+//! lists, images by hand, and the paper's definitions once more, in other ways
+//! than the second program's.
 
 pub mod cases;
 pub mod drafts;
@@ -9,6 +9,7 @@ pub mod oracle;
 pub mod pairs;
 pub mod signs;
 pub mod tables;
+pub mod weights;
 
 pub use drafts::{figure_draft, Draft, DraftCell};
 pub use oracle::Cascade;

@@ -13,6 +13,7 @@ use Rattle.case_cascades.specs.Cases.{planPasses, compilePasses}
 use Rattle.case_reports.specs.Cases.{reportPasses}
 use Rattle.case_pairs.specs.Cases.{pairRunPasses}
 use Rattle.case_reach.specs.Cases.{reachPasses}
+use Rattle.case_sums.specs.Cases.{sumPasses, remainderPasses}
 
 -- Whether a case passes as one of each operation, by its number; there is none with the number 0.
 unfoldable pub operationsPass : List ℤ → List ℤ → List ℤ → List ℤ → List Bool
@@ -27,6 +28,8 @@ operationsPass numbers first second third =
     ∷ reportPasses numbers first second
     ∷ pairRunPasses numbers first
     ∷ reachPasses numbers first second
+    ∷ sumPasses numbers first second
+    ∷ remainderPasses numbers first second
     ∷ []
 
 -- The first number is that of the operation; no case of another passes.

@@ -1,4 +1,4 @@
-// Cases of the nine operations, as a text: a line with the case's title, then a line of numbers. These are the operation, eight
+// Cases of the eleven operations, as a text: a line with the case's title, then a line of numbers. These are the operation, eight
 // numbers of it (0 behind its last), three counts, and as many numbers in three rows; 0 for the refusal where there is none:
 //   1 Build    n, places, refusal, node count, offset; table, what stands in front of the lent places
 //   2 Walk     n, offset, X, refusal, value; records
@@ -9,6 +9,8 @@
 //   7 Report   n, offset, a, b, refusal, count, least, greatest; records, the sum as high and low
 //   8 Pair run m, X, Y, refusal, value, words; image
 //   9 Reach    n, A, refusal, count of cuts, least A; table, cuts
+//  10 Sum      n, places, refusal; weights, what stands in front of the lent places
+//  11 Remainder n, places, refusal, q; weights, what stands in front
 // A report's sum is high · 1,000,000,000 + low, where both may be below 0.
 
 ghost use mathlib.Core.Path.{_≡_};
@@ -29,6 +31,8 @@ fn judge_rows(numbers: &[i32], first: &[i32], second: &[i32], third: &[i32]) -> 
         7 => case_reports::report(numbers, first, second),
         8 => case_pairs::pair_run(numbers, first),
         9 => case_reach::reach(numbers, first, second),
+        10 => case_sums::sum(numbers, first, second),
+        11 => case_sums::remainder(numbers, first, second),
         _ => false,
     }
 }

@@ -17,6 +17,7 @@ pub mod Powers
 pub mod Rows
 pub mod Runs
 pub mod Selections
+pub mod Sums
 pub mod Tallies
 pub mod Widths
 pub mod Written

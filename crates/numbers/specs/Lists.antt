@@ -1,8 +1,9 @@
--- Lists by tests: runs of numbers, what passes a test, how many do, and the least number that does.
+-- Lists by tests: runs of numbers, what passes a test, how many do, and the least number that does. Sums.
 use Prim.Native.Nat.{ℕ, zero, suc, _+_, _-_}
 use mathlib.Core.Bool.{Bool, true, false, _&&_}
 use mathlib.Core.List.{List, [], _∷_, _++_}
 use lib.ListN.{length, replicate}
+use lib.IntN.{ℤ, pos, _+ℤ_}
 
 -- As many numbers as count says, from start up.
 unfoldable pub numbersFrom : ℕ → ℕ → List ℕ
@@ -26,6 +27,11 @@ tally test l = length (keep test l)
 unfoldable pub sumOf : List ℕ → ℕ
 sumOf [] = 0
 sumOf (a ∷ l) = a + sumOf l
+
+-- The sum of some integers.
+unfoldable pub exactSum : List ℤ → ℤ
+exactSum [] = pos 0
+exactSum (z ∷ more) = z +ℤ exactSum more
 
 -- The first number from start on that passes the test, or the end of so many tries.
 unfoldable pub leastFrom : (ℕ → Bool) → ℕ → ℕ → ℕ

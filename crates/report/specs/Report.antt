@@ -1,13 +1,13 @@
 -- The report: count, least, greatest and sum of the values that a record list gives from X = a to X = b.
 use Prim.Native.Nat.{ℕ, suc, _-_, _^_}
 use mathlib.Core.Bool.{Bool, _&&_}
-use mathlib.Core.List.{List, [], _∷_, map}
+use mathlib.Core.List.{List, map}
 use lib.ListN.{length}
 use lib.Dec.{leb, ltb}
-use lib.IntN.{ℤ, pos, _+ℤ_}
+use lib.IntN.{ℤ}
 use Rattle.numbers.specs.Answers.{Answer, accepted, refused, unless}
 use Rattle.numbers.specs.Extremes.{leastOf, greatestOf}
-use Rattle.numbers.specs.Lists.{numbersFrom}
+use Rattle.numbers.specs.Lists.{numbersFrom, exactSum}
 use Rattle.diagram.specs.Walk.{walkValue, ofList}
 use Rattle.report.specs.declared.Reported.{Reported}
 use Rattle.report.specs.declared.Reported.the-variants.{Report, Refused}
@@ -15,11 +15,6 @@ use Rattle.report.specs.declared.Reported.the-variants.{Report, Refused}
 -- Walk's values at X from a to b, both included.
 unfoldable pub valuesFrom : ℕ → ℤ → List ℤ → ℕ → ℕ → List ℤ
 valuesFrom n offset list a b = map (walkValue n offset list) (numbersFrom a (suc b - a))
-
--- The sum of some integers.
-unfoldable pub exactSum : List ℤ → ℤ
-exactSum [] = pos 0
-exactSum (z ∷ more) = z +ℤ exactSum more
 
 -- How many values there are, the least, the greatest and the sum of them.
 pub record Figures : Type 0 where

@@ -10,6 +10,7 @@ use lib.IntN.{ℤ, pos, _+ℤ_}
 use lib.Signed.{mag, leZ}
 use borrow.Author.Tests.{lt-ltb}
 use Rattle.numbers.specs.Answers.{accepted, refused}
+use Rattle.numbers.specs.Lists.{exactSum}
 use Rattle.numbers.specs.Ranges.{isVariables, isValue}
 use Rattle.numbers.specs.Widths.{holds}
 use Rattle.numbers.specs.Laws.Extremal.{leasts, greatests}
@@ -18,7 +19,7 @@ use Rattle.diagram.specs.Accepted.{Accepted, written}
 use Rattle.diagram.specs.Records.{offset}
 use Rattle.diagram.specs.Walk.{listFits, walkValue, walk}
 use Rattle.diagram.specs.Laws.Walks.{written-passing}
-use Rattle.report.specs.Report.{valuesFrom, exactSum, Figures, figuresOf, report}
+use Rattle.report.specs.Report.{valuesFrom, Figures, figuresOf, report}
 use Rattle.report.specs.Laws.Answers.{part-inside, part-turned, part-past, report-unnumbered, report-offset, report-list, report-outside, report-inside, answer-passing, answer-part, answer-figures, answer-walks, answer-before, answer-met, answer-sum}
 use Rattle.report.specs.Laws.Reports.{values-count, sum-one, sum-more, values-of-table}
 

@@ -17,8 +17,8 @@ fn value_fits(table: &[i32], x: usize) -> bool
     numbers::is_within(-8388608, 8388607, table[x])
 }
 
-// Whether every value is.
-fn values_fit(table: &[i32]) -> bool
+// Whether every value is; a weight list is judged so too.
+pub fn values_fit(table: &[i32]) -> bool
     ensures { λ r. ⌜ r ≡ every isValue (now (table .entry)) ⌝ }
 {
     let mut x = 0;

@@ -13,6 +13,7 @@ mod reaches;
 mod refused;
 mod reports;
 mod searches;
+mod sums;
 mod widths;
 
 pub use broken::{broken_lists, BrokenList};
@@ -27,6 +28,7 @@ pub use reaches::{reaches, Reach, COUNTED, STRIPES};
 pub use refused::{refused_images, RefusedImage};
 pub use reports::{reports, Report};
 pub use searches::{searches, Search};
+pub use sums::{sum_calls, sum_calls_by_faults, wrong_remainder_bits, wrong_variables, SumCall};
 pub use widths::{weight_widths, WeightWidth};
 
 use crate::lists::Branch;

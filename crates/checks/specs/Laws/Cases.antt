@@ -14,17 +14,22 @@ use Rattle.case_rows.specs.Rows.{sizeAt}
 use Rattle.case_rows.specs.Laws.Tests.{passed, failed}
 use Rattle.checks.specs.Cases.{operationsPass, rowsPass, casePasses}
 
+-- A case of the operation with this number.
+pub own-operation : (numbers first second third : List ℤ) {operation k : ℕ} → operation ≡ sizeAt numbers 0 → operation ≡ k → getD (operationsPass numbers first second third) k false ≡ rowsPass numbers first second third
+unfolding rowsPass
+own-operation numbers first second third is told = ap (λ m. getD (operationsPass numbers first second third) m false) (sym told ∙ is)
+
 -- A number up to m that is not m is below it.
 below : {k m : ℕ} → k < suc m → (k ≡ m → ⊥) → k < m
 below l h = omega arith
 
 -- No case of another operation passes.
-pub other-operation : (numbers first second third : List ℤ) (operation : ℕ) → (operation ≡ 1 → ⊥) → (operation ≡ 2 → ⊥) → (operation ≡ 3 → ⊥) → (operation ≡ 4 → ⊥) → (operation ≡ 5 → ⊥) → (operation ≡ 6 → ⊥) → (operation ≡ 7 → ⊥) → (operation ≡ 8 → ⊥) → (operation ≡ 9 → ⊥) → getD (operationsPass numbers first second third) operation false ≡ false
+pub other-operation : (numbers first second third : List ℤ) (operation : ℕ) → (operation ≡ 1 → ⊥) → (operation ≡ 2 → ⊥) → (operation ≡ 3 → ⊥) → (operation ≡ 4 → ⊥) → (operation ≡ 5 → ⊥) → (operation ≡ 6 → ⊥) → (operation ≡ 7 → ⊥) → (operation ≡ 8 → ⊥) → (operation ≡ 9 → ⊥) → (operation ≡ 10 → ⊥) → (operation ≡ 11 → ⊥) → getD (operationsPass numbers first second third) operation false ≡ false
 unfolding operationsPass
-other-operation numbers first second third operation a b c d e f g h i =
-    yes-or-no (leb 10 operation)
-    (λ t. List·getD-eq-default (operationsPass numbers first second third) false (leb-true 10 operation t))
-    (λ t. let none = below (below (below (below (below (below (below (below (below (leb-false 10 operation t) i) h) g) f) e) d) c) b) a in ap (λ k. getD (operationsPass numbers first second third) k false) (let z : operation ≡ 0 = omega (none, arith) in z))
+other-operation numbers first second third operation a b c d e f g h i j k =
+    yes-or-no (leb 12 operation)
+    (λ t. List·getD-eq-default (operationsPass numbers first second third) false (leb-true 12 operation t))
+    (λ t. let none = below (below (below (below (below (below (below (below (below (below (below (leb-false 12 operation t) k) j) i) h) g) f) e) d) c) b) a in ap (λ m. getD (operationsPass numbers first second third) m false) (let z : operation ≡ 0 = omega (none, arith) in z))
 
 -- The places behind the rows of a case, as they were worked out.
 module _ (row : List ℤ) {a b c : ℕ} (first : a ≡ sizeAt row 9) (second : b ≡ sizeAt row 10) (third : c ≡ sizeAt row 11) where

@@ -1,13 +1,14 @@
 -- One step of a path in any record list, and the bits of X that it reads.
-use Prim.Native.Nat.{ℕ, zero, suc, _+_, _*_, _/_, _%_, _^_, _≤_, _<_}
+use Prim.Native.Nat.{ℕ, zero, suc, _+_, _-_, _*_, _/_, _%_, _^_, _≤_, _<_}
 use mathlib.Core.Path.{_≡_, refl, sym, _∙_, ap}
 use mathlib.Core.Bool.{true, false}
 use mathlib.Core.List.{List}
-use native.Mathlib.Nat.{mod-lt, mod-le, mod-eq-of-lt, one-mul, two-pow-succ}
+use native.Mathlib.Nat.{mod-lt, mod-le, mod-eq-of-lt, one-mul, mul-assoc, mul-add-mod-self-right, two-pow-succ}
 use native.Mathlib.Numerals.{one-add}
 use native.Mathlib.Omega.{arith}
 use native.Mathlib.Decide.{decLt}
-use lib.Pow.{pow-pos, mod-pow-add}
+use lib.Dec.{eqb}
+use lib.Pow.{pow-pos, pow-add, shr-shr, high, mod-pow-add}
 use lib.IntN.{ℤ, pos, natAbs, _+ℤ_}
 use borrow.Author.Tests.{eqb-true, eqb-false, ne-eqb}
 use Rattle.numbers.specs.Ranges.{eqZ}
@@ -123,6 +124,18 @@ bit-there r i h =
     yes-or-no (bitSet (2 ^ i + r) i)
     (λ b. b)
     (λ b. absurd (let p = bit-zero (2 ^ i + r) i b in let q = mod-lt (2 ^ i + r) (pow-pos i) in let s : (2 ^ i + r) % 2 ^ suc i ≡ 2 ^ i + r = mod-eq-of-lt (rw two-pow-succ (omega arith)) in omega arith))
+
+-- Of j·2^a + r the bits below a are those of r, the others those of j.
+module _ (a j r : ℕ) where
+  pub low-bit : (i : ℕ) → i < a → bitSet (j * 2 ^ a + r) i ≡ bitSet r i
+  low-bit i l =
+      let parts : a ≡ a - suc i + suc i = omega arith in
+      let whole = ap (λ k. j * 2 ^ k) parts ∙ ap (λ p. j * p) (pow-add 2 (a - suc i) (suc i)) ∙ sym (mul-assoc j (2 ^ (a - suc i)) (2 ^ suc i)) in
+      same-bit (j * 2 ^ a + r) r i (ap (λ p. (p + r) % 2 ^ suc i) whole ∙ mul-add-mod-self-right (j * 2 ^ (a - suc i)) (2 ^ suc i) r) .0
+
+  pub high-bit : (i : ℕ) → r < 2 ^ a → bitSet (j * 2 ^ a + r) (a + i) ≡ bitSet j i
+  unfolding bitSet
+  high-bit i below = ap (λ q. eqb (q % 2) 1) (sym (shr-shr (j * 2 ^ a + r) a i) ∙ ap (λ q. q / 2 ^ i) (high j a below))
 
 -- Where all bits are 0 the path adds nothing.
 pub path-zero : (list : List ℤ) (i k : ℕ) → pathWeight list i k 0 ≡ pos 0

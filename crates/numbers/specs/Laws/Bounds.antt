@@ -24,6 +24,11 @@ pub within-pos : (bound a : ℕ) → a ≤ bound → within (pos 0) (pos bound) 
 unfolding within
 within-pos bound a h = and-both (leb 0 a) (leb a bound) (le-leb 0 a (omega arith)) (le-leb a bound h)
 
+-- A natural number that is a value.
+pub natural-value : (a : ℕ) → a ≤ 8388607 → isValue (pos a) ≡ true
+unfolding isValue within
+natural-value a h = le-leb a 8388607 h
+
 -- A value's magnitude.
 pub value-mag : (z : ℤ) → isValue z ≡ true → mag z ≤ 8388607
 unfolding isValue within

@@ -1,14 +1,14 @@
 -- The least and the greatest weight decide the weight width of a whole cell.
 use Prim.Native.Nat.{ℕ, suc, _≤_, _<_, max}
 use mathlib.Core.Path.{_≡_, refl, sym, _∙_, ap}
-use mathlib.Core.Bool.{true, false, false≢true, _&&_, and-assoc}
+use mathlib.Core.Bool.{true, false, true≢false, false≢true, _&&_, and-assoc}
 use mathlib.Core.List.{List, [], _∷_, _++_}
 use native.Mathlib.Nat.{le-antisymm}
 use native.Mathlib.Omega.{arith}
 use lib.Dec.{leb}
 use lib.IntN.{ℤ, pos, negsuc}
-use lib.Signed.{mag, leZ, nonNeg}
-use borrow.Author.Tests.{leb-true, leb-false, le-leb}
+use lib.Signed.{mag, ltZ, leZ, nonNeg}
+use borrow.Author.Tests.{leb-true, leb-false, le-leb, ltb-true, ltb-false}
 use Rattle.numbers.specs.Inner.Bits.{bitLength, greatestMagnitude}
 use Rattle.numbers.specs.Lists.{every}
 use Rattle.numbers.specs.Ranges.{lesser, greater}
@@ -36,6 +36,19 @@ leZ-turn (pos a) (pos b) h = le-leb b a (let p = leb-false a b h in omega arith)
 leZ-turn (pos a) (negsuc b) h = refl
 leZ-turn (negsuc a) (pos b) h = absurd (false≢true (sym h))
 leZ-turn (negsuc a) (negsuc b) h = le-leb a b (let p = leb-false b a h in omega arith)
+
+-- What is less is at most the other; what is not less is at least.
+pub ltZ-le : (a b : ℤ) → ltZ a b ≡ true → leZ a b ≡ true
+ltZ-le (pos a) (pos b) h = le-leb a b (let l = ltb-true a b h in omega arith)
+ltZ-le (pos a) (negsuc b) h = absurd (false≢true h)
+ltZ-le (negsuc a) (pos b) h = refl
+ltZ-le (negsuc a) (negsuc b) h = le-leb b a (let l = ltb-true b a h in omega arith)
+
+pub ltZ-turn : (a b : ℤ) → ltZ a b ≡ false → leZ b a ≡ true
+ltZ-turn (pos a) (pos b) h = le-leb b a (ltb-false a b h)
+ltZ-turn (pos a) (negsuc b) h = refl
+ltZ-turn (negsuc a) (pos b) h = absurd (true≢false h)
+ltZ-turn (negsuc a) (negsuc b) h = le-leb a b (ltb-false b a h)
 
 -- What lies between two numbers is not greater in magnitude than both.
 pub mag-between : (l z h : ℤ) (k : ℕ) → leZ l z ≡ true → leZ z h ≡ true → mag l < k → mag h < k → mag z < k

@@ -1,14 +1,14 @@
 -- Laws of the list definitions: runs of numbers, tests over lists.
 use Prim.Native.Nat.{ℕ, zero, suc, _+_, _-_, _<_}
 use mathlib.Core.Path.{_≡_, refl, sym, _∙_, ap, ap₂}
-use mathlib.Core.Bool.{Bool, true}
+use mathlib.Core.Bool.{Bool, true, false, true≢false}
 use mathlib.Core.List.{List, [], _∷_, _++_, map}
 use native.Mathlib.Nat.{add-zero, add-suc, suc-add}
 use native.Mathlib.Omega.{arith}
 use lib.ListN.{length, getD, take, drop}
 use lib.Seq.{take-nil, drop-nil}
 use Rattle.numbers.specs.Lists.{numbersFrom, every}
-use Rattle.numbers.specs.Laws.Bools.{both, and-both}
+use Rattle.numbers.specs.Laws.Bools.{yes-or-no, both, and-both}
 
 -- ---- runs of numbers
 
@@ -48,6 +48,15 @@ pub every-from : {A : Type 0} (test : A → Bool) (l : List A) (a : A) → ((j :
 unfolding every
 every-from test [] a h = refl
 every-from test (x ∷ l) a h = and-both (test x) (every test l) (h 0 (omega arith)) (every-from test l a (λ j k. h (suc j) (omega arith)))
+
+-- Where it fails, it fails somewhere.
+pub every-not : {A : Type 0} (test : A → Bool) (l : List A) (a : A) → every test l ≡ false → (j : ℕ) × ((j < length l) × (test (getD l j a) ≡ false))
+unfolding every
+every-not test [] a h = absurd (true≢false h)
+every-not test (x ∷ l) a h =
+    yes-or-no (test x)
+    (λ t. let r = every-not test l a (rw t at h) in (suc (r .0), (let inside = r .1 .0 in omega arith, r .1 .1)))
+    (λ t. (0, (omega arith, t)))
 
 -- ---- parts of parts
 

@@ -6,7 +6,7 @@ use mathlib.Core.List.{List, [], _∷_, _++_, append-assoc, append-nil}
 use native.Mathlib.Nat.{zero-add, add-zero}
 use native.Mathlib.Omega.{arith}
 use lib.ListN.{length, getD, take, drop, set, length-append, take-append-drop, List·getD-append}
-use lib.Seq.{take-suc, split-at, length-take-le, drop-cons, drop-append-add, drop-drop, getD-append-seam, getD-append-add, getD-drop, set-at, sets-eq}
+use lib.Seq.{take-suc, split-at, length-take-le, drop-cons, drop-append-add, drop-drop, getD-append-seam, getD-append-add, getD-take, getD-drop, set-at, sets-eq}
 use Rattle.numbers.specs.Lists.{keep}
 use Rattle.numbers.specs.Inner.Rows.{overwritten}
 use Rattle.numbers.specs.Laws.Overwriting.{take-overwritten}
@@ -99,7 +99,13 @@ module _ {A : Type 0} (row : List A) (at : ℕ) (new : List A) (room : at + leng
       ∙ append-assoc (take at row) new (a ∷ drop (suc (at + length new)) row)
       ∙ ap (λ r. take at row ++ r) (sym (append-assoc new (a ∷ []) (drop (suc (at + length new)) row)) ∙ ap (λ k. (new ++ a ∷ []) ++ drop k row) (let e = length-append new (a ∷ []) in let p : suc (at + length new) ≡ at + length (new ++ a ∷ []) = omega arith in p))
 
-  -- A new entry, and one behind them.
+  -- An entry before them, a new one, and one behind them.
+  pub earlier-entry : (p : ℕ) (d : A) → p < at → getD (overwritten row at new) p d ≡ getD row p d
+  unfolding overwritten
+  earlier-entry p d l =
+      List·getD-append (take at row) (new ++ drop (at + length new) row) d p (rw (length-take-le at row (omega arith)) l)
+      ∙ getD-take at row p d l
+
   pub new-entry : (c : ℕ) (d : A) → c < length new → getD (overwritten row at new) (at + c) d ≡ getD new c d
   unfolding overwritten
   new-entry c d l =

@@ -1,9 +1,11 @@
--- Runs of numbers: what of them passes a test whose front passes, what stands in them, and how many places it takes to meet them all.
+-- Runs of numbers: what of them passes a test whose front passes, two runs place by place, what stands in a run, and how many places it
+-- takes to meet them all.
 use Prim.Native.Nat.{ℕ, zero, suc, _+_, _-_, _≤_, _<_}
 use mathlib.Core.Path.{_≡_, refl, sym, _∙_, ap, ap₂}
 use mathlib.Core.Logic.{_⊎_, inl, inr}
 use mathlib.Core.Bool.{Bool, true, false, cond}
-use mathlib.Core.List.{_∷_, _++_, append-nil, List·Memᴰ, List·Memᴰ·head, List·Memᴰ·tail, List·Memᴰ·cases-cons, List·Memᴰ·not-nil}
+use mathlib.Core.List.{_∷_, _++_, map, append-nil, List·Memᴰ, List·Memᴰ·head, List·Memᴰ·tail, List·Memᴰ·cases-cons, List·Memᴰ·not-nil}
+use native.Mathlib.Nat.{add-zero, add-suc, suc-add}
 use native.Mathlib.Omega.{arith}
 use lib.ListN.{length, getD}
 use lib.Dec.{eqb, ltb}
@@ -11,7 +13,7 @@ use borrow.Author.Tests.{eqb-true, eqb-false, ltb-true, ltb-false, lt-ltb, le-lt
 use Rattle.numbers.specs.Lists.{numbersFrom, keep}
 use Rattle.numbers.specs.Laws.Bools.{yes-or-no}
 use Rattle.numbers.specs.Laws.Lists.{length-range, getD-range}
-use Rattle.numbers.specs.Laws.Selections.{keep-append, keep-passed, keep-none, range-add}
+use Rattle.numbers.specs.Laws.Selections.{keep-append, keep-passed, keep-failed, keep-none, range-add}
 
 -- What is kept of a run, where its front passes and the rest does not.
 pub keep-front : (test : ℕ → Bool) (front rest : ℕ) → ((j : ℕ) → j < front → test j ≡ true) → ((j : ℕ) → front ≤ j → j < front + rest → test j ≡ false) → keep test (numbersFrom 0 (front + rest)) ≡ numbersFrom 0 front
@@ -30,6 +32,26 @@ keep-front test front rest pass fail =
     none j l =
         let inside : j < rest = rw length-range at l in
         rw (getD-range (0 + front) rest j 0 inside) (fail (0 + front + j) (omega arith) (omega arith))
+
+-- Two runs of one length, place by place with one outcome and one image: what is kept of them has the same images.
+pub kept-runs : {A : Type 0} (test other : ℕ → Bool) (f g : ℕ → A) (left right count : ℕ) → ((x : ℕ) → x < count → (test (left + x) ≡ other (right + x)) × (f (left + x) ≡ g (right + x))) → map f (keep test (numbersFrom left count)) ≡ map g (keep other (numbersFrom right count))
+unfolding numbersFrom keep
+kept-runs test other f g left right zero h = refl
+kept-runs test other f g left right (suc count) h =
+    let here = rw (add-zero left, add-zero right) at (h 0 (omega arith)) in
+    let rest = kept-runs test other f g (suc left) (suc right) count (λ x l. rw (suc-add left, suc-add right, ← (add-suc left x), ← (add-suc right x)) (h (suc x) (omega arith))) in
+    yes-or-no (test left)
+    (λ e. ap (map f) (keep-passed test left (numbersFrom (suc left) count) e) ∙ ap₂ (λ a l. a ∷ l) (here .1) rest ∙ sym (ap (map g) (keep-passed other right (numbersFrom (suc right) count) (sym (here .0) ∙ e))))
+    (λ e. ap (map f) (keep-failed test left (numbersFrom (suc left) count) e) ∙ rest ∙ sym (ap (map g) (keep-failed other right (numbersFrom (suc right) count) (sym (here .0) ∙ e))))
+
+-- The same of the whole runs.
+pub mapped-runs : {A : Type 0} (f g : ℕ → A) (left right count : ℕ) → ((x : ℕ) → x < count → f (left + x) ≡ g (right + x)) → map f (numbersFrom left count) ≡ map g (numbersFrom right count)
+unfolding numbersFrom
+mapped-runs f g left right zero h = refl
+mapped-runs f g left right (suc count) h =
+    ap₂ (λ a l. a ∷ l)
+    (rw (add-zero left, add-zero right) at (h 0 (omega arith)))
+    (mapped-runs f g (suc left) (suc right) count (λ x l. rw (suc-add left, suc-add right, ← (add-suc left x), ← (add-suc right x)) (h (suc x) (omega arith))))
 
 -- The numbers of a run.
 pub run-among : (start count h : ℕ) → List·Memᴰ h (numbersFrom start count) → (start ≤ h) × (h < start + count)

@@ -84,6 +84,12 @@ module _ {A : Type 0} (test : A → Bool) where
   keep-none [] a h = refl
   keep-none (x ∷ l) a h = keep-failed x l (h 0 (omega arith)) ∙ keep-none l a (λ j p. h (suc j) (omega arith))
 
+  -- Where everything passes, all is kept.
+  pub keep-all : (l : List A) (a : A) → ((j : ℕ) → j < length l → test (getD l j a) ≡ true) → keep test l ≡ l
+  unfolding keep
+  keep-all [] a h = refl
+  keep-all (x ∷ l) a h = keep-passed x l (h 0 (omega arith)) ∙ ap (λ m. x ∷ m) (keep-all l a (λ j p. h (suc j) (omega arith)))
+
 -- Equal tests keep the same.
 pub keep-same : {A : Type 0} (left right : A → Bool) (l : List A) → ((a : A) → left a ≡ right a) → keep left l ≡ keep right l
 unfolding keep

@@ -8,13 +8,14 @@ use native.Mathlib.Omega.{arith}
 use lib.ListN.{length, getD, take, drop, length-map, length-drop}
 use lib.Seq.{ext-getD, getD-take, getD-drop, length-take-le}
 use lib.Pow.{pow-mono}
-use lib.IntN.{ℤ, pos, _+ℤ_, +ℤ-idl, +ℤ-idr, +ℤ-assoc}
+use lib.IntN.{ℤ, pos, _+ℤ_}
 use lib.Signed.{mag}
-use Rattle.numbers.specs.Lists.{numbersFrom}
+use Rattle.numbers.specs.Lists.{numbersFrom, exactSum}
 use Rattle.numbers.specs.Laws.Bounds.{value-mag}
 use Rattle.numbers.specs.Laws.Extremal.{Extreme}
 use Rattle.numbers.specs.Laws.Lists.{length-range, getD-range, getD-map, range-suc, map-append}
 use Rattle.numbers.specs.Laws.Machine.{mag-add}
+use Rattle.numbers.specs.Laws.Sums.{exact-one, sum-snoc, sum-small}
 use Rattle.diagram.specs.Accepted.{written}
 use Rattle.diagram.specs.Records.{offset as tableOffset}
 use Rattle.diagram.specs.Walk.{recordCount, pathWeight, walkValue}
@@ -23,25 +24,7 @@ use Rattle.diagram.specs.Laws.Checks.{variables-range}
 use Rattle.diagram.specs.Laws.Edges.{passes-walkable}
 use Rattle.diagram.specs.Laws.NodeRanges.{path-small}
 use Rattle.diagram.specs.Laws.Walks.{walk-value}
-use Rattle.report.specs.Report.{valuesFrom, exactSum}
-
--- ---- sums
-
--- One number more.
-sum-snoc : (l : List ℤ) (z : ℤ) → exactSum (l ++ z ∷ []) ≡ exactSum l +ℤ z
-unfolding exactSum
-sum-snoc [] z = +ℤ-idr z ∙ sym (+ℤ-idl z)
-sum-snoc (y ∷ l) z = ap (λ s. y +ℤ s) (sum-snoc l z) ∙ sym (+ℤ-assoc y (exactSum l) z)
-
--- A sum of numbers within a bound.
-sum-small : (bound : ℕ) (l : List ℤ) → ((j : ℕ) → j < length l → mag (getD l j (pos 0)) ≤ bound) → mag (exactSum l) ≤ length l * suc bound
-unfolding exactSum
-sum-small bound [] h = omega arith
-sum-small bound (z ∷ l) h =
-    let here = h 0 (omega arith) in
-    let rest = sum-small bound l (λ j k. h (suc j) (omega arith)) in
-    let m = mag-add z (exactSum l) in
-    omega arith
+use Rattle.report.specs.Report.{valuesFrom}
 
 -- ---- values from a to b
 
@@ -92,8 +75,7 @@ module _ (n : ℕ) (offset : ℤ) (list : List ℤ) (a : ℕ) where
         (a + m .0, omega arith, omega arith, m .1 .1 ∙ values-at b (m .0) l)
 
   pub sum-one : exactSum (valuesFrom n offset list a a) ≡ walkValue n offset list a
-  unfolding exactSum
-  sum-one = ap exactSum values-one ∙ +ℤ-idr (walkValue n offset list a)
+  sum-one = ap exactSum values-one ∙ exact-one (walkValue n offset list a)
 
   pub sum-more : (x : ℕ) → a ≤ x → exactSum (valuesFrom n offset list a (x + 1)) ≡ exactSum (valuesFrom n offset list a x) +ℤ walkValue n offset list (x + 1)
   sum-more x h = ap exactSum (values-next x h) ∙ sum-snoc (valuesFrom n offset list a x) (walkValue n offset list (x + 1))

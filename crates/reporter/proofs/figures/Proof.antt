@@ -12,13 +12,14 @@ use mir.Facts.{toZ-ofZ, fits-of-lt}
 use borrow.Author.Needs.{needs, sfits-of}
 use Rattle.numbers.specs.Answers.{accepted}
 use Rattle.numbers.specs.Extremes.{leastOf, greatestOf}
+use Rattle.numbers.specs.Lists.{exactSum}
 use Rattle.numbers.specs.Ranges.{lesser, greater}
 use Rattle.numbers.specs.Laws.Extremal.{leasts, greatests}
 use Rattle.diagram.specs.Walk.{walkValue}
 use Rattle.diagram.specs.Inner.Edges.{descend, Passing, PathReady}
 use Rattle.diagram.specs.Laws.Checks.{variables-range}
 use Rattle.diagram.specs.declared.Reached.{Reached}
-use Rattle.report.specs.Report.{valuesFrom, exactSum, Figures, figuresOf, reported}
+use Rattle.report.specs.Report.{valuesFrom, Figures, figuresOf, reported}
 use Rattle.report.specs.Laws.Answers.{part-order}
 use Rattle.report.specs.Laws.Reports.{values-count, extreme-one, extreme-more, sum-one, sum-more, part-sum-small}
 use Rattle.tops.specs.Inner.Tops.{lowestOf, topAt}

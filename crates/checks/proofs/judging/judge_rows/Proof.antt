@@ -4,7 +4,7 @@ use mathlib.Core.Bool.{false}
 use lib.ListN.{getD}
 use borrow.Author.Needs.{needs}
 use Rattle.checks.specs.Cases.{operationsPass, rowsPass}
-use Rattle.checks.specs.Laws.Cases.{other-operation}
+use Rattle.checks.specs.Laws.Cases.{own-operation, other-operation}
 use Rattle.checks.proofs.judging.judge_rows.Statement.{statement}
 use Rattle.checks.proofs.judging.judge_rows.Tie as tie
 
@@ -38,68 +38,86 @@ pair-run-requires c κs = search needs
 reach-requires : tie.Need-reach-requires
 reach-requires c κs = search needs
 
+sum-requires : tie.Need-sum-requires
+sum-requires c κs = search needs
+
+remainder-requires : tie.Need-remainder-requires
+remainder-requires c κs = search needs
+
 returns : tie.Need-returns
-unfolding rowsPass operationsPass
+unfolding operationsPass
 returns c =
     let a = c .before .before .before .args in
-    c .build .ensures ∙ sym (ap (λ k. getD (operationsPass (a .numbers .now) (a .first .now) (a .second .now) (a .third .now)) k false) (sym (c .before .before .size-at .ensures .0) ∙ c .before .match .keys1))
+    c .build .ensures ∙ own-operation (a .numbers .now) (a .first .now) (a .second .now) (a .third .now) (c .before .before .size-at .ensures .0) (c .before .match .keys1)
 
 returns-2 : tie.Need-returns-2
-unfolding rowsPass operationsPass
+unfolding operationsPass
 returns-2 c =
     let a = c .before .before .before .args in
-    c .walk .ensures ∙ sym (ap (λ k. getD (operationsPass (a .numbers .now) (a .first .now) (a .second .now) (a .third .now)) k false) (sym (c .before .before .size-at .ensures .0) ∙ c .before .match .keys2))
+    c .walk .ensures ∙ own-operation (a .numbers .now) (a .first .now) (a .second .now) (a .third .now) (c .before .before .size-at .ensures .0) (c .before .match .keys2)
 
 returns-3 : tie.Need-returns-3
-unfolding rowsPass operationsPass
+unfolding operationsPass
 returns-3 c =
     let a = c .before .before .before .args in
-    c .plan .ensures ∙ sym (ap (λ k. getD (operationsPass (a .numbers .now) (a .first .now) (a .second .now) (a .third .now)) k false) (sym (c .before .before .size-at .ensures .0) ∙ c .before .match .keys3))
+    c .plan .ensures ∙ own-operation (a .numbers .now) (a .first .now) (a .second .now) (a .third .now) (c .before .before .size-at .ensures .0) (c .before .match .keys3)
 
 returns-4 : tie.Need-returns-4
-unfolding rowsPass operationsPass
+unfolding operationsPass
 returns-4 c =
     let a = c .before .before .before .args in
-    c .compile .ensures ∙ sym (ap (λ k. getD (operationsPass (a .numbers .now) (a .first .now) (a .second .now) (a .third .now)) k false) (sym (c .before .before .size-at .ensures .0) ∙ c .before .match .keys4))
+    c .compile .ensures ∙ own-operation (a .numbers .now) (a .first .now) (a .second .now) (a .third .now) (c .before .before .size-at .ensures .0) (c .before .match .keys4)
 
 returns-5 : tie.Need-returns-5
-unfolding rowsPass operationsPass
+unfolding operationsPass
 returns-5 c =
     let a = c .before .before .before .args in
-    c .run .ensures ∙ sym (ap (λ k. getD (operationsPass (a .numbers .now) (a .first .now) (a .second .now) (a .third .now)) k false) (sym (c .before .before .size-at .ensures .0) ∙ c .before .match .keys5))
+    c .run .ensures ∙ own-operation (a .numbers .now) (a .first .now) (a .second .now) (a .third .now) (c .before .before .size-at .ensures .0) (c .before .match .keys5)
 
 returns-6 : tie.Need-returns-6
-unfolding rowsPass operationsPass
+unfolding operationsPass
 returns-6 c =
     let a = c .before .before .before .args in
-    c .expand .ensures ∙ sym (ap (λ k. getD (operationsPass (a .numbers .now) (a .first .now) (a .second .now) (a .third .now)) k false) (sym (c .before .before .size-at .ensures .0) ∙ c .before .match .keys6))
+    c .expand .ensures ∙ own-operation (a .numbers .now) (a .first .now) (a .second .now) (a .third .now) (c .before .before .size-at .ensures .0) (c .before .match .keys6)
 
 returns-7 : tie.Need-returns-7
-unfolding rowsPass operationsPass
+unfolding operationsPass
 returns-7 c =
     let a = c .before .before .before .args in
-    c .report .ensures ∙ sym (ap (λ k. getD (operationsPass (a .numbers .now) (a .first .now) (a .second .now) (a .third .now)) k false) (sym (c .before .before .size-at .ensures .0) ∙ c .before .match .keys7))
+    c .report .ensures ∙ own-operation (a .numbers .now) (a .first .now) (a .second .now) (a .third .now) (c .before .before .size-at .ensures .0) (c .before .match .keys7)
 
 returns-8 : tie.Need-returns-8
-unfolding rowsPass operationsPass
+unfolding operationsPass
 returns-8 c =
     let a = c .before .before .before .args in
-    c .pair-run .ensures ∙ sym (ap (λ k. getD (operationsPass (a .numbers .now) (a .first .now) (a .second .now) (a .third .now)) k false) (sym (c .before .before .size-at .ensures .0) ∙ c .before .match .keys8))
+    c .pair-run .ensures ∙ own-operation (a .numbers .now) (a .first .now) (a .second .now) (a .third .now) (c .before .before .size-at .ensures .0) (c .before .match .keys8)
 
 returns-9 : tie.Need-returns-9
-unfolding rowsPass operationsPass
+unfolding operationsPass
 returns-9 c =
     let a = c .before .before .before .args in
-    c .reach .ensures ∙ sym (ap (λ k. getD (operationsPass (a .numbers .now) (a .first .now) (a .second .now) (a .third .now)) k false) (sym (c .before .before .size-at .ensures .0) ∙ c .before .match .keys9))
+    c .reach .ensures ∙ own-operation (a .numbers .now) (a .first .now) (a .second .now) (a .third .now) (c .before .before .size-at .ensures .0) (c .before .match .keys9)
 
 returns-10 : tie.Need-returns-10
-unfolding rowsPass
+unfolding operationsPass
 returns-10 c =
+    let a = c .before .before .before .args in
+    c .sum .ensures ∙ own-operation (a .numbers .now) (a .first .now) (a .second .now) (a .third .now) (c .before .before .size-at .ensures .0) (c .before .match .keys10)
+
+returns-11 : tie.Need-returns-11
+unfolding operationsPass
+returns-11 c =
+    let a = c .before .before .before .args in
+    c .remainder .ensures ∙ own-operation (a .numbers .now) (a .first .now) (a .second .now) (a .third .now) (c .before .before .size-at .ensures .0) (c .before .match .keys11)
+
+returns-12 : tie.Need-returns-12
+unfolding rowsPass
+returns-12 c =
     let a = c .before .before .args in
     let r = c .match .rest in
     sym
     (ap (λ k. getD (operationsPass (a .numbers .now) (a .first .now) (a .second .now) (a .third .now)) k false) (sym (c .before .size-at .ensures .0))
-    ∙ other-operation (a .numbers .now) (a .first .now) (a .second .now) (a .third .now) (c .before .size-at .result) (r .0 .0 .0 .0 .0 .0 .0 .0 .1) (r .0 .0 .0 .0 .0 .0 .0 .1) (r .0 .0 .0 .0 .0 .0 .1) (r .0 .0 .0 .0 .0 .1) (r .0 .0 .0 .0 .1) (r .0 .0 .0 .1) (r .0 .0 .1) (r .0 .1) (r .1))
+    ∙ other-operation (a .numbers .now) (a .first .now) (a .second .now) (a .third .now) (c .before .size-at .result) (r .0 .0 .0 .0 .0 .0 .0 .0 .0 .0 .1) (r .0 .0 .0 .0 .0 .0 .0 .0 .0 .1) (r .0 .0 .0 .0 .0 .0 .0 .0 .1) (r .0 .0 .0 .0 .0 .0 .0 .1) (r .0 .0 .0 .0 .0 .0 .1) (r .0 .0 .0 .0 .0 .1) (r .0 .0 .0 .0 .1) (r .0 .0 .0 .1) (r .0 .0 .1) (r .0 .1) (r .1))
 
 pub judge-rows-spec : {M : Type 1} → statement M
 judge-rows-spec =
@@ -115,6 +133,8 @@ judge-rows-spec =
     report-requires
     pair-run-requires
     reach-requires
+    sum-requires
+    remainder-requires
     returns
     returns-2
     returns-3
@@ -124,4 +144,6 @@ judge-rows-spec =
     returns-7
     returns-8
     returns-9
-    returns-10)
+    returns-10
+    returns-11
+    returns-12)

@@ -1,0 +1,3 @@
+-- When a case of Sum or Remainder passes.
+pub mod Cases
+pub mod Laws

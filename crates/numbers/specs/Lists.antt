@@ -1,4 +1,4 @@
--- Lists by tests: runs of numbers, what passes a test, how many do, and the least number that does. Sums.
+-- Lists by tests: runs of numbers, what passes a test, how many do, the least number that does; and sums.
 use Prim.Native.Nat.{ℕ, zero, suc, _+_, _-_}
 use mathlib.Core.Bool.{Bool, true, false, _&&_}
 use mathlib.Core.List.{List, [], _∷_, _++_}

@@ -6,7 +6,7 @@ int main(void)
 {
     const int32_t table[16] = {0, 0, 0, 0, 1, 1, 2, 3, 4, 4, 5, 6, 7, 7, 7, 7};
     uint8_t image[65536];
-    size_t cells[60], length, nodes, count, bits, words;
+    size_t cells[84], length, nodes, count, bits, words;
     int32_t value;
 
     uint8_t refusal = panstrait_compile(4, table, 16, 4, image, sizeof image,

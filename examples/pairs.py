@@ -13,7 +13,7 @@ library.panstrait_pair_run.restype = ctypes.c_uint8
 n, limit, *values = [int(word) for word in open(sys.argv[2]).read().split()]
 table = (ctypes.c_int32 * len(values))(*values)
 image = (ctypes.c_uint8 * 65536)()
-cells = (size * 60)()
+cells = (size * 84)()
 length, nodes, count, bits = size(), size(), size(), size()
 refusal = library.panstrait_compile(
     size(n), table, size(len(table)), size(limit), image, size(len(image)), cells,

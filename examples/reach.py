@@ -15,7 +15,7 @@ table = (ctypes.c_int32 * len(values))(*values)
 
 
 def plan(a):
-    sizes, cells, count, bits = (size * 12)(), (size * 60)(), size(), size()
+    sizes, cells, count, bits = (size * 12)(), (size * 84)(), size(), size()
     refusal = library.panstrait_plan(
         size(n), table, size(len(table)), size(a), sizes, cells, ctypes.byref(count), ctypes.byref(bits))
     if refusal != 0:

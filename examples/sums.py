@@ -30,6 +30,6 @@ print(f"{nodes.value} nodes")
 
 call("remainder", weights, size(n), size(q), table, size(len(table)))
 print(f"remainders by {2**q}:", *table)
-sizes, cells, count, bits = (size * 12)(), (size * 60)(), size(), size()
+sizes, cells, count, bits = (size * 12)(), (size * 84)(), size(), size()
 call("plan", table, size(len(table)), size(q + 1), sizes, cells, ctypes.byref(count), ctypes.byref(bits))
 print(f"Plan with A {q + 1}: groups {' '.join(map(str, sizes[:count.value]))}, {bits.value} bits")

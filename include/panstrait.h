@@ -35,15 +35,20 @@ size_t panstrait_weight_width(int32_t least, int32_t greatest);
  * for its class tried: it tries the class of the block just before, then the
  * other known ones from class 0 up, each at most once, and the found one is
  * counted; so it is 0 at a cut's first block, and all known ones at any other
- * new class. True with the four rows filled where n is at most 12, the table
- * has 2^n values, classes, firsts and tried have 2^(n+1) - 1 places and counts
- * has n + 1; else false, and the rows are left as they were.
+ * new class. uses has there how many blocks of the cut up to and including this
+ * one have its class, and use_counts, by class as firsts, how many blocks of the
+ * cut have the class, 0 past the last class; those of cut h sum to 2^h. True
+ * with the six rows filled where n is at most 12, the table has 2^n values,
+ * counts has n + 1 places and each other row 2^(n+1) - 1; else false, and the
+ * rows are left as they were.
  */
 bool panstrait_classes(size_t n, const int32_t *table, size_t table_len,
                        size_t *classes, size_t classes_len,
                        size_t *firsts, size_t firsts_len,
                        size_t *counts, size_t counts_len,
-                       size_t *tried, size_t tried_len);
+                       size_t *tried, size_t tried_len,
+                       size_t *uses, size_t uses_len,
+                       size_t *use_counts, size_t use_counts_len);
 
 /*
  * Build: 0, and the first numbers of the node buffer hold the table's records,
@@ -107,15 +112,17 @@ uint8_t panstrait_expand(const uint8_t *image, size_t image_len,
 
 /*
  * Plan: 0, and of the grouping that costs least within the address limit sizes
- * holds the groups from the top down, cells five numbers a cell (group,
- * incoming class count, outgoing class count, weight width, memory bits), both
- * 0 past the last cell, count the number of cells and bits the sum of their
- * bits; else the refusal's number (1, 2, 3, 8 or 9), and all four are left as
- * they were.
+ * holds the groups from the top down, cells seven numbers a cell (group,
+ * incoming class count, outgoing class count, weight width, memory bits, and of
+ * the classes at the cut where the cell ends the one that most blocks of that
+ * cut have, the smallest number on a tie, and how many blocks have it), both 0
+ * past the last cell, count the number of cells and bits the sum of their bits;
+ * else the refusal's number (1, 2, 3, 8 or 9), and all four are left as they
+ * were.
  */
 uint8_t panstrait_plan(size_t n, const int32_t *table, size_t table_len,
                        size_t limit,
-                       size_t sizes[12], size_t cells[60],
+                       size_t sizes[12], size_t cells[84],
                        size_t *count, size_t *bits);
 
 /*
@@ -160,7 +167,7 @@ uint8_t panstrait_remainder(size_t n,
  */
 uint8_t panstrait_compile(size_t n, const int32_t *table, size_t table_len,
                           size_t limit, uint8_t *image, size_t image_len,
-                          size_t cells[60],
+                          size_t cells[84],
                           size_t *length, size_t *nodes,
                           size_t *count, size_t *bits);
 

@@ -12,6 +12,8 @@ struct Rows {
     firsts: Vec<usize>,
     counts: Vec<usize>,
     tried: Vec<usize>,
+    uses: Vec<usize>,
+    use_counts: Vec<usize>,
 }
 
 impl Rows {
@@ -21,6 +23,8 @@ impl Rows {
             firsts: vec![0; (2 << N) - 1],
             counts: vec![0; N + 1],
             tried: vec![0; (2 << N) - 1],
+            uses: vec![0; (2 << N) - 1],
+            use_counts: vec![0; (2 << N) - 1],
         }
     }
 
@@ -32,6 +36,8 @@ impl Rows {
             &mut self.firsts,
             &mut self.counts,
             &mut self.tried,
+            &mut self.uses,
+            &mut self.use_counts,
         ));
     }
 
@@ -43,6 +49,8 @@ impl Rows {
             &mut self.firsts,
             &mut self.counts,
             &mut self.tried,
+            &mut self.uses,
+            &mut self.use_counts,
         );
     }
 
@@ -59,6 +67,11 @@ impl Rows {
     fn same_classes(&self, other: &Rows) -> bool {
         (&self.classes, &self.firsts, &self.counts)
             == (&other.classes, &other.firsts, &other.counts)
+    }
+
+    fn same_searches(&self, other: &Rows) -> bool {
+        (&self.tried, &self.uses, &self.use_counts)
+            == (&other.tried, &other.uses, &other.use_counts)
     }
 
     /// How many classes the former order tries at all cuts.
@@ -95,7 +108,7 @@ fn one(Named { name, table }: &Named) {
         || ours.proved(black_box(table)),
         || former.former_order(black_box(table)),
     );
-    assert!(ours.same_classes(&theirs) && ours.tried == theirs.tried);
+    assert!(ours.same_classes(&theirs) && ours.same_searches(&theirs));
     assert!(ours.same_classes(&former));
     let tried = ours.tried.iter().sum::<usize>();
     let former = former.tried_from_0();

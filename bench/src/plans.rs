@@ -13,7 +13,7 @@ const LIMITS: [usize; 3] = [4, 8, 12];
 /// What the proved functions are lent. Nothing is cleared between runs.
 struct Rows {
     sizes: [usize; 12],
-    cells: [usize; 60],
+    cells: [usize; 84],
     count: usize,
     bits: usize,
     length: usize,
@@ -27,7 +27,7 @@ impl Rows {
     fn new() -> Rows {
         Rows {
             sizes: [0; 12],
-            cells: [0; 60],
+            cells: [0; 84],
             count: 0,
             bits: 0,
             length: 0,
@@ -86,8 +86,10 @@ impl Rows {
                 outgoing,
                 width,
                 bits,
+                commonest,
+                uses,
             } = *cell;
-            [group, incoming, outgoing, width, bits]
+            [group, incoming, outgoing, width, bits, commonest, uses]
         };
         let cells: Vec<usize> = plan.cells.iter().flat_map(cell).collect();
         self.cells[..] == cells && (self.count, self.bits) == (plan.count, plan.bits)

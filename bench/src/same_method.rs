@@ -4,8 +4,9 @@
 use panstrait_samples::RECORD;
 use std::ops::Range;
 
-/// The classes of all cuts, laid out cut after cut, and how many classes each
-/// block's search tried.
+/// The classes of all cuts, laid out cut after cut, how many classes each block's
+/// search tried, and how many blocks use a class.
+#[allow(clippy::too_many_arguments)]
 pub fn class_cuts(
     n: usize,
     table: &[i32],
@@ -13,6 +14,8 @@ pub fn class_cuts(
     firsts: &mut [usize],
     counts: &mut [usize],
     tried: &mut [usize],
+    uses: &mut [usize],
+    use_counts: &mut [usize],
 ) {
     for (h, count) in counts.iter_mut().enumerate() {
         let blocks = cut_places(h);
@@ -21,7 +24,9 @@ pub fn class_cuts(
             1 << (n - h),
             &mut classes[blocks.clone()],
             &mut firsts[blocks.clone()],
-            &mut tried[blocks],
+            &mut tried[blocks.clone()],
+            &mut uses[blocks.clone()],
+            &mut use_counts[blocks],
         );
     }
 }
@@ -39,6 +44,8 @@ fn class_cut(
     classes: &mut [usize],
     firsts: &mut [usize],
     tried: &mut [usize],
+    uses: &mut [usize],
+    use_counts: &mut [usize],
 ) -> usize {
     let block = |j: usize| &table[j * size..(j + 1) * size];
     let (mut count, mut latest) = (0, 0);
@@ -47,11 +54,13 @@ fn class_cut(
         let same = |first: usize| same_differences(block(first), values);
         (latest, *tried) = find_class(&firsts[..count], latest, same);
         *class = latest;
-        firsts[j] = 0;
+        (firsts[j], use_counts[j]) = (0, 0);
         if latest == count {
             firsts[count] = j;
             count += 1;
         }
+        use_counts[latest] += 1;
+        uses[j] = use_counts[latest];
     }
     count
 }
@@ -158,6 +167,8 @@ struct Cuts {
     firsts: [usize; 8_191],
     counts: [usize; 13],
     tried: [usize; 8_191],
+    uses: [usize; 8_191],
+    use_counts: [usize; 8_191],
 }
 
 impl Cuts {
@@ -166,6 +177,8 @@ impl Cuts {
         firsts: [0; 8_191],
         counts: [0; 13],
         tried: [0; 8_191],
+        uses: [0; 8_191],
+        use_counts: [0; 8_191],
     };
 
     fn fill(&mut self, n: usize, table: &[i32]) {
@@ -177,6 +190,8 @@ impl Cuts {
             &mut self.firsts[..places],
             &mut self.counts[..=n],
             &mut self.tried[..places],
+            &mut self.uses[..places],
+            &mut self.use_counts[..places],
         );
     }
 
@@ -188,6 +203,18 @@ impl Cuts {
     /// The first blocks of the classes of a cut.
     fn firsts(&self, h: usize) -> &[usize] {
         &self.firsts[(1 << h) - 1..][..self.counts[h]]
+    }
+
+    /// The commonest class of a cut, the smallest number on a tie, and its use
+    /// count.
+    fn commonest(&self, h: usize) -> (usize, usize) {
+        let mut commonest = (0, 0);
+        for (class, &uses) in self.use_counts[cut_places(h)].iter().enumerate() {
+            if uses > commonest.1 {
+                commonest = (class, uses);
+            }
+        }
+        commonest
     }
 }
 
@@ -239,6 +266,8 @@ pub struct Cell {
     pub outgoing: usize,
     pub width: usize,
     pub bits: usize,
+    pub commonest: usize,
+    pub uses: usize,
 }
 
 /// Plan's answer: the cells from the top down, and their bits.
@@ -288,7 +317,8 @@ fn weights<'a>(
     })
 }
 
-/// A cell with its price, from its least and its greatest weight.
+/// A cell with its price, from its least and its greatest weight, and without its
+/// commonest class, which no choice looks at.
 fn cell(n: usize, h: usize, group: usize, table: &[i32], cuts: &Cuts) -> Cell {
     let bounds = |(least, greatest): (i32, i32), w: i32| (least.min(w), greatest.max(w));
     let (least, greatest) = weights(n, h, group, table, cuts).fold((0, 0), bounds);
@@ -300,6 +330,7 @@ fn cell(n: usize, h: usize, group: usize, table: &[i32], cuts: &Cuts) -> Cell {
         outgoing,
         width,
         bits: (rail_width(outgoing) + width) << (rail_width(incoming) + group),
+        ..Cell::default()
     }
 }
 
@@ -343,10 +374,11 @@ fn plan_cuts(n: usize, table: &[i32], limit: usize, cuts: &Cuts) -> Option<Plan>
     };
     let mut h = 0;
     while h < n {
-        let cell = choices[h]?.cell;
-        plan.cells[plan.count] = cell;
-        plan.count += 1;
+        let cell = &mut plan.cells[plan.count];
+        *cell = choices[h]?.cell;
         h += cell.group;
+        (cell.commonest, cell.uses) = cuts.commonest(h);
+        plan.count += 1;
     }
     Some(plan)
 }

@@ -83,8 +83,9 @@ pub fn expand(image: &[u8], table: &mut [i32]) -> Result<(), Refusal> {
     answer(proved::expand(image, table), (), (), ())
 }
 
-/// Numbers that stand for a cell: group, incoming, outgoing, width, bits.
-const CELL: usize = 5;
+/// Numbers that stand for a cell: group, incoming, outgoing, width, bits,
+/// commonest class, its use count.
+const CELL: usize = 7;
 
 /// An array of fixed size as it is lent, with places beside it that no call
 /// may change.
@@ -112,13 +113,15 @@ impl<const PLACES: usize> Lent<PLACES> {
     }
 }
 
-fn cells(row: &Lent<60>, count: usize) -> Vec<Cell> {
+fn cells(row: &Lent<84>, count: usize) -> Vec<Cell> {
     let cell = |numbers: &[usize]| Cell {
         group: numbers[0],
         incoming: numbers[1],
         outgoing: numbers[2],
         width: numbers[3],
         bits: numbers[4],
+        commonest: numbers[5],
+        uses: numbers[6],
     };
     row.entries(CELL * count).chunks(CELL).map(cell).collect()
 }

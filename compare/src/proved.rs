@@ -18,6 +18,10 @@ mod c {
             counts_len: usize,
             tried: *mut usize,
             tried_len: usize,
+            uses: *mut usize,
+            uses_len: usize,
+            use_counts: *mut usize,
+            use_counts_len: usize,
         ) -> bool;
         pub fn panstrait_build(
             n: usize,
@@ -76,7 +80,7 @@ mod c {
             table_len: usize,
             limit: usize,
             sizes: *mut [usize; 12],
-            cells: *mut [usize; 60],
+            cells: *mut [usize; 84],
             count: *mut usize,
             bits: *mut usize,
         ) -> u8;
@@ -96,7 +100,7 @@ mod c {
             limit: usize,
             image: *mut u8,
             image_len: usize,
-            cells: *mut [usize; 60],
+            cells: *mut [usize; 84],
             length: *mut usize,
             nodes: *mut usize,
             count: *mut usize,
@@ -128,7 +132,8 @@ pub fn weight_width(least: i32, greatest: i32) -> usize {
     unsafe { c::panstrait_weight_width(least, greatest) }
 }
 
-/// The classes of all cuts, into the four rows; false where a size is wrong.
+/// The classes of all cuts, into the six rows; false where a size is wrong.
+#[allow(clippy::too_many_arguments)]
 pub fn classes(
     n: usize,
     table: &[i32],
@@ -136,6 +141,8 @@ pub fn classes(
     firsts: &mut [usize],
     counts: &mut [usize],
     tried: &mut [usize],
+    uses: &mut [usize],
+    use_counts: &mut [usize],
 ) -> bool {
     unsafe {
         c::panstrait_classes(
@@ -150,6 +157,10 @@ pub fn classes(
             counts.len(),
             tried.as_mut_ptr(),
             tried.len(),
+            uses.as_mut_ptr(),
+            uses.len(),
+            use_counts.as_mut_ptr(),
+            use_counts.len(),
         )
     }
 }
@@ -240,7 +251,7 @@ pub fn plan(
     table: &[i32],
     limit: usize,
     sizes: &mut [usize; 12],
-    cells: &mut [usize; 60],
+    cells: &mut [usize; 84],
     count: &mut usize,
     bits: &mut usize,
 ) -> u8 {
@@ -279,7 +290,7 @@ pub fn compile(
     table: &[i32],
     limit: usize,
     image: &mut [u8],
-    cells: &mut [usize; 60],
+    cells: &mut [usize; 84],
     length: &mut usize,
     nodes: &mut usize,
     count: &mut usize,

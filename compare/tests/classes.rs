@@ -10,10 +10,14 @@ const PLACE: usize = 0x5EED_1234_5678;
 const MARGIN: [usize; 4] = [PLACE; 4];
 
 /// The rows in the order of the C interface: each block's class, each class's
-/// first block, the counts, and how many classes each block's search tried.
-type Rows = [Vec<usize>; 4];
+/// first block, the counts, how many classes each block's search tried, the uses
+/// of its class up to it, and each class's use count.
+type Rows = [Vec<usize>; 6];
 
-fn patterned(sizes: [usize; 4]) -> Rows {
+/// The rows with a place for every block.
+const BLOCK_ROWS: [usize; 5] = [0, 1, 3, 4, 5];
+
+fn patterned(sizes: [usize; 6]) -> Rows {
     sizes.map(|size| vec![PLACE; size])
 }
 
@@ -28,7 +32,7 @@ fn call(n: usize, table: &[i32], rows: &mut Rows) -> bool {
     let mut lent = rows
         .clone()
         .map(|row| [&MARGIN, &row[..], &MARGIN].concat());
-    let [classes, firsts, counts, tried] = &mut lent;
+    let [classes, firsts, counts, tried, uses, use_counts] = &mut lent;
     let answer = proved::classes(
         n,
         table,
@@ -36,6 +40,8 @@ fn call(n: usize, table: &[i32], rows: &mut Rows) -> bool {
         inner(firsts),
         inner(counts),
         inner(tried),
+        inner(uses),
+        inner(use_counts),
     );
     *rows = lent.map(|mut row| {
         assert!(row.starts_with(&MARGIN) && row.ends_with(&MARGIN), "n {n}");
@@ -54,23 +60,28 @@ fn cut_places(cut: usize) -> Range<usize> {
     (1 << cut) - 1..(2 << cut) - 1
 }
 
-fn sizes(n: usize) -> [usize; 4] {
-    [places(n), places(n), n + 1, places(n)]
+fn sizes(n: usize) -> [usize; 6] {
+    let blocks = places(n);
+    [blocks, blocks, n + 1, blocks, blocks, blocks]
 }
 
 /// The rows by the second program, cut by cut.
 fn expected(n: usize, table: &[i32]) -> Rows {
-    let mut rows = patterned([0; 4]);
+    let mut rows = patterned([0; 6]);
     for cut in 0..=n {
         let classes = reference::classes(n, table, cut);
         let count = classes.iter().max().map_or(0, |most| most + 1);
         let first = |class| classes.iter().position(|&c| c == class);
         let mut firsts: Vec<usize> = (0..count).filter_map(first).collect();
         firsts.resize(classes.len(), 0);
+        let mut use_counts = reference::use_counts(n, table, cut);
+        use_counts.resize(classes.len(), 0);
         rows[0].extend(classes);
         rows[1].extend(firsts);
         rows[2].push(count);
         rows[3].extend(reference::tried(n, table, cut));
+        rows[4].extend(reference::uses(n, table, cut));
+        rows[5].extend(use_counts);
     }
     rows
 }
@@ -111,9 +122,12 @@ fn tables_that_are_hard_to_tell_apart() {
     }
 }
 
+/// With uses of the first class, of the last and of the last two.
 #[test]
 fn more_than_256_classes() {
     same_rows(12, &tables::many_classes());
+    same_rows(12, &tables::last_class_commonest());
+    same_rows(12, &tables::last_two_classes_commonest());
 }
 
 #[test]
@@ -123,6 +137,7 @@ fn random_tables() {
         for _ in 0..if n < 9 { 300 } else { 40 } {
             same_rows(n, &tables::random(n, &mut random));
             same_rows(n, &tables::wandering(n, &mut random));
+            same_rows(n, &tables::contested(n, &mut random));
         }
     }
 }
@@ -138,14 +153,19 @@ fn all_small_tables() {
     }
 }
 
-/// Each block's class, and how many classes were tried for it.
+/// Each block's class, how many classes were tried for it and its uses so far,
+/// and each class's use count.
 #[test]
 fn searches_worked_out_by_hand() {
     for case in cases::searches() {
-        let [classes, _, _, tried] = answered(case.n, &case.table);
-        let blocks = cut_places(case.cut);
-        assert_eq!(classes[blocks.clone()], case.classes(), "{}", case.name);
-        assert_eq!(tried[blocks], case.tried(), "{}", case.name);
+        let [classes, _, _, tried, uses, use_counts] = answered(case.n, &case.table);
+        let at_cut = |row: Vec<usize>| row[cut_places(case.cut)].to_vec();
+        let mut expected = case.use_counts.clone();
+        expected.resize(1 << case.cut, 0);
+        assert_eq!(at_cut(classes), case.classes(), "{}", case.name);
+        assert_eq!(at_cut(tried), case.tried(), "{}", case.name);
+        assert_eq!(at_cut(uses), case.uses(), "{}", case.name);
+        assert_eq!(at_cut(use_counts), expected, "{}", case.name);
     }
 }
 
@@ -160,18 +180,39 @@ fn all_rows_of_few_classes() {
 }
 
 /// All known classes are tried at every block of a cut, and none at the first
-/// block of the next cut.
+/// block of the next cut; half of the blocks use the last two.
 #[test]
 fn the_last_two_classes_alternate() {
     for n in 3..=12 {
         for height in 1..=n - 2 {
             let table = tables::alternating_last_classes(n, height);
             same_rows(n, &table);
-            let [.., tried] = answered(n, &table);
+            let [.., tried, uses, use_counts] = answered(n, &table);
             let cut = n - height;
             let known = 1 << (cut - 1);
             assert_eq!(tried[cut_places(cut)][known..], vec![known; known]);
             assert_eq!(tried[cut_places(cut + 1)][0], 0);
+            assert_eq!(uses[cut_places(cut)][2 * known - 1], 1 + known / 2);
+            assert_eq!(uses[cut_places(cut + 1)][0], 1);
+            let last_two = &use_counts[cut_places(cut)][known - 2..known];
+            assert_eq!(last_two, [1 + known / 2; 2]);
+        }
+    }
+}
+
+/// By the answers alone: every class of a cut is used, no other is, and all uses
+/// are the cut's blocks.
+#[test]
+fn use_counts_sum_to_the_blocks() {
+    for n in 0..=12 {
+        for table in [vec![0; 1 << n], tables::all_different(n)] {
+            let [_, _, counts, _, _, use_counts] = answered(n, &table);
+            for (cut, &count) in counts.iter().enumerate() {
+                let (used, rest) = use_counts[cut_places(cut)].split_at(count);
+                assert!(used.iter().all(|&uses| uses > 0), "n {n}, cut {cut}");
+                assert!(rest.iter().all(|&uses| uses == 0), "n {n}, cut {cut}");
+                assert_eq!(used.iter().sum::<usize>(), 1 << cut, "n {n}");
+            }
         }
     }
 }
@@ -187,7 +228,7 @@ fn other_offsets_change_nothing() {
             for cut in 0..=n {
                 let moved = answered(n, &tables::moved_blocks(n, &table, cut, &mut random));
                 let from = cut_places(cut).start;
-                for row in [0, 1, 3] {
+                for row in BLOCK_ROWS {
                     assert!(moved[row][from..] == rows[row][from..], "{table:?}");
                 }
                 assert_eq!(moved[2][cut..], rows[2][cut..]);
@@ -232,7 +273,7 @@ fn differences_beyond_32_bits() {
 }
 
 /// A call with these sizes answers false and leaves the rows.
-fn refused(n: usize, values: usize, sizes: [usize; 4]) {
+fn refused(n: usize, values: usize, sizes: [usize; 6]) {
     let table = vec![5; values];
     let mut rows = patterned(sizes);
     assert!(!call(n, &table, &mut rows), "n {n}, {values}, {sizes:?}");
@@ -241,6 +282,7 @@ fn refused(n: usize, values: usize, sizes: [usize; 4]) {
 
 /// The table and the rows, each of the right size or of a wrong one: one less,
 /// one more, none, and another's size. All are refused but where each is right.
+/// Above two variables no more than two are wrong at once.
 #[test]
 fn wrong_sizes() {
     for n in 0..=12 {
@@ -248,15 +290,15 @@ fn wrong_sizes() {
         let tables = [values, values - 1, values + 1, 0, 2 * values];
         let blocks = [places, places - 1, places + 1, 0, values];
         let counts = [n + 1, n, n + 2, 0, places + 1];
-        for code in 0..5_usize.pow(5) {
-            let digit = |place: u32| code / 5_usize.pow(place) % 5;
-            let values = tables[digit(0)];
-            let rows = [
-                blocks[digit(1)],
-                blocks[digit(2)],
-                counts[digit(3)],
-                blocks[digit(4)],
-            ];
+        let choices = [blocks, blocks, counts, blocks, blocks, blocks];
+        for code in 1..5_usize.pow(7) {
+            let digit = |place: usize| code / 5_usize.pow(place as u32) % 5;
+            let wrong = (0..7).filter(|&place| digit(place) != 0).count();
+            if n > 2 && wrong > 2 {
+                continue;
+            }
+            let rows = [0, 1, 2, 3, 4, 5].map(|row| choices[row][digit(row)]);
+            let values = tables[digit(6)];
             if (values, rows) != (1 << n, sizes(n)) {
                 refused(n, values, rows);
             }
@@ -267,8 +309,8 @@ fn wrong_sizes() {
 #[test]
 fn too_many_variables() {
     for n in [13, 14, 31, 32, 62, 63, 64, 65, 1 << 32, usize::MAX] {
-        refused(n, 0, [0; 4]);
-        refused(n, 1, [1; 4]);
+        refused(n, 0, [0; 6]);
+        refused(n, 1, [1; 6]);
         refused(n, 4_096, sizes(12));
     }
     refused(13, 8_192, sizes(13));

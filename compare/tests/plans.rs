@@ -1,9 +1,13 @@
 //! Plan and Compile: sizes, cells, bits, the image, and what is left of the
 //! buffers; then Run and Expand on what was compiled.
 
+mod common;
+
+use common::use_counts;
 use panstrait_compare::answers;
 use panstrait_reference as reference;
 use panstrait_reference::{Cell, Compiled, Planned, Ran, Refusal};
+use panstrait_samples::cases::ChosenCell;
 use panstrait_samples::{
     cases, oracle, signs, tables, Random, BYTE, FIGURE, GREATEST, LEAST, NORM, NUMBER, ROOT,
 };
@@ -125,8 +129,8 @@ fn pairs_at_the_borders_of_widths() {
         check_limits(1, table, &mut random);
         let width = oracle::width([weight]);
         let planned = same_plan(1, table, 1).expect("one cell");
-        let cells: Vec<[usize; 5]> = planned.cells.iter().map(fields).collect();
-        assert_eq!(cells, [[1, 1, 1, width, 2 * width]], "{table:?}");
+        let cells = fields(&planned.cells);
+        assert_eq!(cells, [[1, 1, 1, width, 2 * width, 0, 2]], "{table:?}");
     }
 }
 
@@ -175,31 +179,66 @@ fn tables_with_ties() {
     }
 }
 
-fn fields(cell: &Cell) -> [usize; 5] {
-    [
-        cell.group,
-        cell.incoming,
-        cell.outgoing,
-        cell.width,
-        cell.bits,
-    ]
+/// The numbers of each cell.
+fn fields(cells: &[Cell]) -> Vec<ChosenCell> {
+    let fields = |c: &Cell| {
+        [
+            c.group,
+            c.incoming,
+            c.outgoing,
+            c.width,
+            c.bits,
+            c.commonest,
+            c.uses,
+        ]
+    };
+    cells.iter().map(fields).collect()
 }
 
-/// The paper's checked values, the tie at 40 bits, more than 256 classes at a
-/// chosen cut, a long image.
+/// The paper's checked values, the tie at 40 bits, commonest classes of all kinds,
+/// as many cells as can be, more than 256 classes at a chosen cut, a long image.
 #[test]
 fn cells_worked_out_by_hand() {
     for case in cases::chosen_plans() {
         let (n, table, limit) = (case.n, &case.table, case.limit);
         let planned = same_plan(n, table, limit).expect("a grouping fits");
         assert_eq!((planned.sizes, planned.bits), (case.sizes(), case.bits()));
-        let cells: Vec<[usize; 5]> = planned.cells.iter().map(fields).collect();
-        assert_eq!(cells, case.cells);
+        assert_eq!(fields(&planned.cells), case.cells);
         let (compiled, image) = same_compile(n, table, limit, 65_536).expect("a grouping fits");
+        assert_eq!(fields(&compiled.cells), case.cells);
         assert_eq!(compiled.length, case.length());
         assert_eq!(compiled.nodes, case.nodes());
-        assert!(image == case.image(), "{cells:?}");
+        assert!(image == case.image(), "{:?}", case.cells);
         check_limits(n, table, &mut Random(46));
+    }
+}
+
+/// Each cell has the commonest class of the cut where it ends, by the use counts
+/// of all cuts.
+fn check_commonest(use_counts: &[Vec<usize>], planned: &Planned) {
+    let mut cut = 0;
+    for cell in &planned.cells {
+        cut += cell.group;
+        let counts = &use_counts[cut];
+        let most = counts.iter().max().expect("every cut has a class");
+        let first = counts.iter().position(|uses| uses == most);
+        assert_eq!((Some(cell.commonest), cell.uses), (first, *most));
+    }
+}
+
+/// Where cells end, several classes are often equally common. Plan is held
+/// against the classes by themselves, too.
+#[test]
+fn contested_cuts() {
+    let mut random = Random(52);
+    for n in 1..=12 {
+        for _ in 0..if n < 9 { 60 } else { 6 } {
+            let table = tables::contested(n, &mut random);
+            check_limits(n, &table, &mut random);
+            let counts = use_counts(n, &table);
+            let plans = (1..=12).filter_map(|limit| answers::plan(n, &table, limit).ok());
+            plans.for_each(|planned| check_commonest(&counts, &planned));
+        }
     }
 }
 

@@ -1,7 +1,10 @@
 //! Sum and Remainder: the tables, what is left of the buffer, and what is
 //! refused; Build, Plan and the classes on the tables beside them.
 
-use panstrait_compare::{answers, proved};
+mod common;
+
+use common::class_counts;
+use panstrait_compare::answers;
 use panstrait_reference as reference;
 use panstrait_reference::Refusal;
 use panstrait_samples::{cases, node_numbers, weights, Random, GREATEST, LEAST, NUMBER};
@@ -95,22 +98,6 @@ fn node_count(n: usize, table: &[i32]) -> usize {
     let mut nodes = vec![NUMBER; node_numbers(n)];
     let built = answers::build(n, table, &mut nodes).expect("a sound table");
     built.nodes
-}
-
-/// The class count of every cut, through C.
-fn class_counts(n: usize, table: &[i32]) -> Vec<usize> {
-    let row = vec![0; (2 << n) - 1];
-    let (mut classes, mut firsts, mut tried) = (row.clone(), row.clone(), row);
-    let mut counts = vec![0; n + 1];
-    assert!(proved::classes(
-        n,
-        table,
-        &mut classes,
-        &mut firsts,
-        &mut counts,
-        &mut tried
-    ));
-    counts
 }
 
 /// Weights 1, 2, 2, 4, and a single weight that is not 0.

@@ -4,8 +4,11 @@ use crate::ranges;
 use crate::refusal::{require, Refusal, LIMIT, NO_GROUPING};
 use crate::table;
 use crate::widths::{cell_bits, rail_width, weight_width};
+use std::cmp::Reverse;
 
-/// A cell: its group, both class counts, its weight width and memory bits.
+/// A cell: its group, both class counts, its weight width and memory bits, and
+/// of the classes at the cut where it ends the commonest one, with how many
+/// blocks of that cut have it.
 #[derive(Debug, Clone, PartialEq, Eq)]
 pub struct Cell {
     pub group: usize,
@@ -13,6 +16,8 @@ pub struct Cell {
     pub outgoing: usize,
     pub width: usize,
     pub bits: usize,
+    pub commonest: usize,
+    pub uses: usize,
 }
 
 /// What Plan answers: the chosen grouping, its cells from the top down, and its
@@ -79,7 +84,17 @@ impl<'a> Cuts<'a> {
         (0..=self.n).map(rail).collect()
     }
 
-    fn cell(&self, cut: usize, group: usize) -> Cell {
+    /// The class that most blocks of a cut have, the smallest number on a tie,
+    /// and how many blocks have it.
+    fn commonest(&self, cut: usize) -> (usize, usize) {
+        let use_counts = table::counts_by_class(&self.classes[cut]);
+        let used = use_counts.into_iter().enumerate();
+        used.min_by_key(|&(class, uses)| (Reverse(uses), class))
+            .expect("every cut has a class")
+    }
+
+    /// A cell, with the commonest class where it ends.
+    fn cell(&self, cut: usize, group: usize, (commonest, uses): (usize, usize)) -> Cell {
         let weights: Vec<i32> = self.words(cut, group).iter().map(|w| w.weight).collect();
         let incoming = self.first_blocks(cut).len();
         let outgoing = self.first_blocks(cut + group).len();
@@ -90,16 +105,20 @@ impl<'a> Cuts<'a> {
             outgoing,
             width,
             bits: cell_bits(incoming, group, outgoing, width),
+            commonest,
+            uses,
         }
     }
 
     /// For every cut, the cells that begin there by group; none beyond the limit.
     fn fitting_cells(&self, limit: usize) -> Vec<Vec<Option<Cell>>> {
         let rails = self.rail_widths();
+        let commonest: Vec<_> = (0..=self.n).map(|cut| self.commonest(cut)).collect();
         let below = |cut: usize| {
             let fitting = |group| fits(rails[cut], group, limit);
+            let cell = |group| self.cell(cut, group, commonest[cut + group]);
             (1..=self.n - cut)
-                .map(|group| fitting(group).then(|| self.cell(cut, group)))
+                .map(|group| fitting(group).then(|| cell(group)))
                 .collect()
         };
         (0..self.n).map(below).collect()

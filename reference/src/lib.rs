@@ -9,8 +9,8 @@
 //! The layers, lowest first: `refusal`, `ranges` and `widths`; `reader`, which
 //! knows images and no tables, above it `pairs` (images of functions of two
 //! variables), and `lists`, which knows record lists and no tables; `sums`,
-//! which makes tables of weights; `table` (blocks, classes and the search for
-//! them, the node bound); `diagram`; `grouping`; `reach`; `compiler`;
+//! which makes tables of weights; `table` (blocks, classes, the search for them
+//! and their uses, the node bound); `diagram`; `grouping`; `reach`; `compiler`;
 //! `listing`.
 
 mod compiler;
@@ -37,5 +37,5 @@ pub use reach::{reach, Reached};
 pub use reader::{expand, expand_older, run, run_older, Ran};
 pub use refusal::Refusal;
 pub use sums::{remainder, sum};
-pub use table::{classes, node_bound, tried};
+pub use table::{classes, node_bound, tried, use_counts, uses};
 pub use widths::{rail_width, weight_width};

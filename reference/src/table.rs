@@ -62,6 +62,38 @@ pub fn tried(n: usize, table: &[i32], cut: usize) -> Vec<usize> {
     table.chunks(1 << (n - cut)).map(search).collect()
 }
 
+/// How many blocks at a cut, up to and including each one, have its class, left
+/// to right.
+///
+/// For a table of 2^n values and a cut from 0 to n.
+pub fn uses(n: usize, table: &[i32], cut: usize) -> Vec<usize> {
+    let classes = classes(n, table, cut);
+    let up_to = |(block, class): (usize, &usize)| {
+        let so_far = classes[..=block].iter();
+        so_far.filter(|&other| other == class).count()
+    };
+    classes.iter().enumerate().map(up_to).collect()
+}
+
+/// How many blocks at a cut have each class, by class.
+///
+/// For a table of 2^n values and a cut from 0 to n.
+pub fn use_counts(n: usize, table: &[i32], cut: usize) -> Vec<usize> {
+    counts_by_class(&classes(n, table, cut))
+}
+
+/// How many blocks have each class, by the classes of a cut's blocks.
+pub(crate) fn counts_by_class(classes: &[usize]) -> Vec<usize> {
+    let mut counts = Vec::new();
+    for &class in classes {
+        if class == counts.len() {
+            counts.push(0);
+        }
+        counts[class] += 1;
+    }
+    counts
+}
+
 /// The bound on the node count for a greatest rise p and a height l.
 ///
 /// For a table of 2^n values and l from 1 to n; `i128::MAX` if it is beyond

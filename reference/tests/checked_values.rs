@@ -6,7 +6,11 @@ use common::*;
 use panstrait_reference::*;
 use panstrait_samples::*;
 
-const FIGURE_CELLS: [[usize; 5]; 3] = [[2, 1, 2, 3, 16], [1, 2, 2, 1, 8], [1, 2, 1, 1, 4]];
+const FIGURE_CELLS: [cases::ChosenCell; 3] = [
+    [2, 1, 2, 3, 16, 0, 2],
+    [1, 2, 2, 1, 8, 0, 6],
+    [1, 2, 1, 1, 4, 0, 16],
+];
 
 #[test]
 fn p1_listing() {
@@ -97,7 +101,7 @@ fn costs_of_other_pairs() {
 #[test]
 fn p9_constant() {
     let (answer, _) = compiled(2, &[7; 4], 2).unwrap();
-    assert_eq!(fields(&answer.cells), [[2, 1, 1, 0, 0]]);
+    assert_eq!(fields(&answer.cells), [[2, 1, 1, 0, 0, 0, 4]]);
     assert_eq!((answer.bits, answer.nodes), (0, 1));
     let (answer, records) = built(2, &[7; 4]);
     assert_eq!(answer.nodes, 1);

@@ -51,7 +51,7 @@ fn the_norm() {
 #[test]
 fn two_bits() {
     let (answer, image) = compiled(2, &cases::TWO_BITS, 2).unwrap();
-    assert_eq!(fields(&answer.cells), [[2, 1, 1, 5, 20]]);
+    assert_eq!(fields(&answer.cells), [[2, 1, 1, 5, 20, 0, 4]]);
     assert_eq!(image, cases::TWO_BITS_IMAGE);
     assert_eq!(ran(1, &image, (0, 1)), Ok((1, 1)));
     assert_eq!(ran(1, &image, (1, 0)), Ok((2, 1)));

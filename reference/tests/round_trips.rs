@@ -50,6 +50,7 @@ fn check_groupings(n: usize, table: &[i32]) {
         if let Some((bits, sizes)) = &expected {
             let planned = planned.expect("a grouping fits");
             assert_eq!((planned.bits, &planned.sizes), (*bits, sizes));
+            assert_eq!(commonest(&planned.cells), cascade.commonest(sizes));
             if last != expected {
                 check_image(n, table, limit, &planned, cascade.draft(sizes));
             }

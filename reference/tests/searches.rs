@@ -1,5 +1,8 @@
 //! How many classes the search for each block's class tries.
 
+mod common;
+
+use common::*;
 use panstrait_reference::*;
 use panstrait_samples::*;
 
@@ -21,18 +24,6 @@ fn later_searches(n: usize, table: &[i32], cut: usize) -> Vec<Later> {
         tried: tried[block],
     };
     (1..1 << cut).map(search).collect()
-}
-
-/// Each of many tables of small and middling size at each of its cuts.
-fn for_each_cut(seed: u64, mut check: impl FnMut(usize, &[i32], usize)) {
-    let mut random = Random(seed);
-    for n in 1..=8 {
-        let mut tables = tables::all(n, &mut random, 20);
-        tables.extend((0..20).map(|_| tables::wandering(n, &mut random)));
-        for table in tables {
-            (0..=n).for_each(|cut| check(n, &table, cut));
-        }
-    }
 }
 
 #[test]

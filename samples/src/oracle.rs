@@ -39,6 +39,43 @@ pub fn tried(classes: &[usize]) -> Vec<usize> {
     classes.iter().enumerate().map(at).collect()
 }
 
+/// How many blocks of a cut, up to and including each one, have its class, by
+/// a map of the classes met so far.
+pub fn uses(classes: &[usize]) -> Vec<usize> {
+    let mut met: HashMap<usize, usize> = HashMap::new();
+    let meet = |&class: &usize| {
+        let uses = met.entry(class).or_insert(0);
+        *uses += 1;
+        *uses
+    };
+    classes.iter().map(meet).collect()
+}
+
+/// How many blocks of a cut have each class, by the sorted classes.
+pub fn use_counts(classes: &[usize]) -> Vec<usize> {
+    let mut sorted = classes.to_vec();
+    sorted.sort_unstable();
+    let below = |class: usize| sorted.partition_point(|&other| other < class);
+    let uses = |class: usize| below(class + 1) - below(class);
+    (0..).map(uses).take_while(|&uses| uses > 0).collect()
+}
+
+/// The commonest class of a cut and its use count: from the last class down,
+/// each that is no less common takes the place of the one before.
+pub fn commonest(classes: &[usize]) -> (usize, usize) {
+    let from_the_last = use_counts(classes).into_iter().enumerate().rev();
+    from_the_last.fold(
+        (0, 0),
+        |best, (class, uses)| {
+            if uses < best.1 {
+                best
+            } else {
+                (class, uses)
+            }
+        },
+    )
+}
+
 /// The records, sharing by equal low, high and weight within a height.
 pub fn records(n: usize, table: &[i32]) -> Vec<i32> {
     with_bounds(&branches(n, table))
@@ -160,6 +197,16 @@ impl<'a> Cascade<'a> {
     pub fn cost(&self, cut: usize, group: usize) -> usize {
         let word = rail(self.count(cut + group)) + self.weight_width(cut, group);
         (1 << self.address_width(cut, group)) * word
+    }
+
+    /// The commonest class where each cell of a grouping ends, with its use count.
+    pub fn commonest(&self, sizes: &[usize]) -> Vec<(usize, usize)> {
+        let mut cut = 0;
+        let at_the_end = |&group: &usize| {
+            cut += group;
+            commonest(&self.classes[cut])
+        };
+        sizes.iter().map(at_the_end).collect()
     }
 
     /// The costs of all cells, by cut and then group less 1.

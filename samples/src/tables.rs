@@ -236,6 +236,23 @@ pub fn wandering(n: usize, random: &mut Random) -> Vec<i32> {
     of_classes(height, &classes)
 }
 
+/// A table whose blocks of some height are of few classes, in rows of them that
+/// recur: a cell often ends there, many classes are equally common, and others
+/// are commonest in the rows.
+pub fn contested(n: usize, random: &mut Random) -> Vec<i32> {
+    let height = 1 + random.below(n.min(3));
+    let group = random.below(n - height + 1);
+    let count = 2 + random.below(5);
+    let row: Vec<Vec<i32>> = (0..1 + random.below(3))
+        .map(|_| of(group, |_| 1_000 * random.below(count) as i32))
+        .collect();
+    let rows = 1 << (n - height - group);
+    let classes: Vec<i32> = (0..rows)
+        .flat_map(|_| row[random.below(row.len())].clone())
+        .collect();
+    by_last_value(n, height, |block| classes[block])
+}
+
 /// The table with each block of a cut moved by a number of its own, within the
 /// values' range.
 pub fn moved_blocks(n: usize, table: &[i32], cut: usize, random: &mut Random) -> Vec<i32> {
@@ -259,13 +276,29 @@ pub fn alternating_last_classes(n: usize, height: usize) -> Vec<i32> {
 }
 
 /// A table over 12 variables whose grouping of least cost is 5, 4, 3, with 300
-/// classes at cut 9: blocks far apart, whose differences are the block's number
-/// modulo 300 in four-valued digits, -2 to 1.
+/// classes at cut 9, taken in turn.
 pub fn many_classes() -> Vec<i32> {
+    of_far_blocks(|block| block % 300)
+}
+
+/// The like of it: the blocks from 300 on are of the last class.
+pub fn last_class_commonest() -> Vec<i32> {
+    of_far_blocks(|block| block.min(299))
+}
+
+/// The like of it: the blocks from 300 on are of the last two classes, as many of
+/// each.
+pub fn last_two_classes_commonest() -> Vec<i32> {
+    of_far_blocks(|block| block.min(298 + block % 2))
+}
+
+/// Blocks of eight values, far apart, whose differences are the class in
+/// four-valued digits, -2 to 1.
+fn of_far_blocks(class: impl Fn(usize) -> usize) -> Vec<i32> {
     of(12, |x| {
         let (block, place) = (x >> 3, x & 7);
         let digit = match place {
-            1..=5 => ((block % 300) >> (2 * (place - 1)) & 3) as i32 - 2,
+            1..=5 => (class(block) >> (2 * (place - 1)) & 3) as i32 - 2,
             _ => 0,
         };
         16_000 * block as i32 - 4_000_000 + digit

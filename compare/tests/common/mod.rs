@@ -1,7 +1,7 @@
-//! Run, the pair run and Expand as several test files call them.
+//! Run, the pair run, Expand and the classes as several test files call them.
 #![allow(dead_code)]
 
-use panstrait_compare::answers;
+use panstrait_compare::{answers, proved};
 use panstrait_reference as reference;
 use panstrait_reference::{Ran, Refusal};
 use panstrait_samples::pairs::Pair;
@@ -64,4 +64,28 @@ pub fn chosen_drafts(n: usize, table: &[i32], limits: RangeInclusive<usize>) -> 
         .filter_map(|limit| cascade.chosen(&costs, limit))
         .map(|(_, sizes)| cascade.draft(&sizes))
         .collect()
+}
+
+/// The class count of every cut, through C.
+pub fn class_counts(n: usize, table: &[i32]) -> Vec<usize> {
+    use_counts(n, table).iter().map(Vec::len).collect()
+}
+
+/// How many blocks have each class, of every cut, through C.
+pub fn use_counts(n: usize, table: &[i32]) -> Vec<Vec<usize>> {
+    let mut rows = [(); 5].map(|()| vec![0; (2 << n) - 1]);
+    let [classes, firsts, tried, uses, use_counts] = &mut rows;
+    let mut counts = vec![0; n + 1];
+    assert!(proved::classes(
+        n,
+        table,
+        classes,
+        firsts,
+        &mut counts,
+        tried,
+        uses,
+        use_counts,
+    ));
+    let of_cut = |cut: usize| use_counts[(1 << cut) - 1..][..counts[cut]].to_vec();
+    (0..=n).map(of_cut).collect()
 }

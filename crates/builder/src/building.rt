@@ -39,7 +39,7 @@ fn write_records(
     made
 }
 
-// The classes of all cuts of a table, and from them its records. How many classes were tried is not asked for.
+// The classes of all cuts of a table, and from them its records. How many blocks use each class is not asked for.
 fn record_table(
     n: usize,
     table: &[i32],
@@ -52,9 +52,9 @@ fn record_table(
     ensures { λ r. ⌜ AllRecorded n (now (table .entry)) (now (nodes .entry)) r (now (nodes .exit)) ⌝ }
     ensures { λ r. ⌜ AllClassed n (now (table .entry)) (now (classes .exit)) (now (firsts .exit)) (now (counts .exit)) ⌝ }
 {
-    let mut tried = [0usize; 8191];
+    let mut use_counts = [0usize; 8191];
     let places = classes.len();
-    classes::class_cuts(n, table, classes, firsts, counts, &mut tried[..places]);
+    classes::class_table(n, table, classes, firsts, counts, &mut use_counts[..places]);
     write_records(n, table, classes, firsts, counts, nodes)
 }
 

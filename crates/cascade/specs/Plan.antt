@@ -1,15 +1,17 @@
 -- Plan: its verdict, and what the arrays beside it hold.
-use Prim.Native.Nat.{ℕ}
+use Prim.Native.Nat.{ℕ, _+_}
 use mathlib.Core.Path.{_≡_}
-use mathlib.Core.List.{List, [], map}
+use mathlib.Core.List.{List, [], _∷_}
 use lib.ListN.{length}
 use lib.IntN.{ℤ}
 use Rattle.numbers.specs.Answers.{Answer, accepted, refused, unless, mapAnswer}
 use Rattle.numbers.specs.Lists.{padded}
 use Rattle.numbers.specs.Ranges.{isLimit, mostVariables}
+use Rattle.uses.specs.Uses.{commonestAt}
+use Rattle.uses.specs.declared.Common.{Common}
 use Rattle.diagram.specs.Build.{ofTable}
 use Rattle.image.specs.Cells.{Cell, bitsOf, totalBits}
-use Rattle.cascade.specs.Cascade.{cellsFrom}
+use Rattle.cascade.specs.Cascade.{cellOf, cellsFrom}
 use Rattle.cascade.specs.Groupings.{chosen}
 use Rattle.cascade.specs.declared.Cell.{Cell as PlanCell}
 use Rattle.cascade.specs.declared.Planned.{Planned}
@@ -20,18 +22,25 @@ use Rattle.cascade.specs.declared.Verdict.the-variants.{Grouping, Refuse
 unfoldable pub plan : ℕ → List ℤ → ℕ → Answer (List ℕ)
 plan n table limit = ofTable n table (unless (isLimit limit) 8 (chosen n table limit))
 
--- A cell as Plan answers it.
-unfoldable pub planCell : Cell → PlanCell
-planCell cell = record {
+-- A cell as Plan answers it, with the commonest class of the cut where it ends.
+unfoldable pub planCell : Cell → Common → PlanCell
+planCell cell commonest = record {
   group = cell .group;
   incoming = cell .incoming;
   outgoing = cell .outgoing;
   width = cell .width;
   bits = bitsOf cell;
+  common = commonest .class;
+  uses = commonest .uses;
 }
 
+-- The cells of a list of sizes, from cut h down, as Plan answers them.
+unfoldable pub planCells : ℕ → List ℤ → ℕ → List ℕ → List PlanCell
+planCells n table h [] = []
+planCells n table h (g ∷ sizes) = planCell (cellOf n table h g) (commonestAt n table (h + g)) ∷ planCells n table (h + g) sizes
+
 unfoldable pub noCell : PlanCell
-noCell = record { group = 0; incoming = 0; outgoing = 0; width = 0; bits = 0 }
+noCell = record { group = 0; incoming = 0; outgoing = 0; width = 0; bits = 0; common = 0; uses = 0 }
 
 -- The entries of an accepted answer; a refusal has none.
 unfoldable pub entries : {A B : Type 0} → (A → List B) → Answer A → List B
@@ -43,7 +52,7 @@ unfoldable pub sizeArray : Answer (List ℕ) → List ℕ
 sizeArray answer = padded mostVariables 0 (entries (λ sizes. sizes) answer)
 
 unfoldable pub cellArray : ℕ → List ℤ → Answer (List ℕ) → List PlanCell
-cellArray n table answer = padded mostVariables noCell (entries (λ sizes. map planCell (cellsFrom n table 0 sizes)) answer)
+cellArray n table answer = padded mostVariables noCell (entries (planCells n table 0) answer)
 
 -- The number of cells and their memory bits.
 pub record Totals : Type 0 where

@@ -1,17 +1,22 @@
 -- What Plan and Compile answer, and what Run and Expand give on a compiled image.
-use Prim.Native.Nat.{ℕ, _+_, _-_, _^_, _≤_, _<_}
+use Prim.Native.Nat.{ℕ, suc, _+_, _-_, _^_, _≤_, _<_}
 use mathlib.Core.Path.{_≡_, refl, sym, _∙_, ap, ap₂}
 use mathlib.Core.Bool.{true, true≢false}
-use mathlib.Core.List.{List, [], _∷_, _++_, map, flatMap}
+use mathlib.Core.List.{List, [], _∷_, _++_, flatMap}
+use native.Mathlib.Nat.{zero-add}
 use native.Mathlib.Numerals.{add-one}
+use native.Mathlib.Omega.{arith}
 use lib.ListN.{length, getD, take, drop, replicate}
-use lib.Seq.{take-append-seam}
+use lib.Seq.{take-all, take-append-seam}
 use lib.IntN.{ℤ, pos}
 use lib.Signed.{_≤ℤ_}
 use borrow.Author.Tests.{le-leb, eq-eqb}
 use Rattle.numbers.specs.Answers.{Answer, accepted, refused, mapAnswer, bufferAfter}
-use Rattle.numbers.specs.Lists.{padded}
+use Rattle.numbers.specs.Lists.{padded, sumOf}
 use Rattle.numbers.specs.Ranges.{isLimit, mostVariables}
+use Rattle.blocks.specs.Classes.{classCount}
+use Rattle.uses.specs.Uses.{useCount, classesAt, commonestAt}
+use Rattle.uses.specs.Theorems.{commonest-known, commonest-uses, commonest-most, commonest-smallest, commonest-at-bottom}
 use Rattle.diagram.specs.Accepted.{Accepted}
 use Rattle.diagram.specs.Build.{ofTable}
 use Rattle.diagram.specs.Records.{records, nodeCount}
@@ -23,13 +28,15 @@ use Rattle.image.specs.Reader.{reading}
 use Rattle.image.specs.Run.{run, expand}
 use Rattle.image.specs.Theorems.{card-image, card-run, card-expand}
 use Rattle.image.specs.declared.Command.the-variants as commands
-use Rattle.cascade.specs.Cascade.{cellsFrom, cardFor}
+use Rattle.cascade.specs.Cascade.{cellOf, cellsFrom, cardFor}
 use Rattle.cascade.specs.Compile.{imageFor, compile, Report, report, compileAnswer, compileBuffer, compiledImage}
 use Rattle.cascade.specs.Groupings.{cost, fits, chosen, isGrouping, BestGrouping}
-use Rattle.cascade.specs.Plan.{plan, planCell, noCell, entries, sizeArray, cellArray, totals}
+use Rattle.cascade.specs.Plan.{plan, planCell, planCells, noCell, entries, sizeArray, cellArray, totals}
+use Rattle.cascade.specs.declared.Cell.{Cell as PlanCell}
 use Rattle.cascade.specs.Laws.Admitting.{plan-admits, compile-admits, report-admits}
-use Rattle.cascade.specs.Laws.Cards.{cells-count, card-value, card-values}
+use Rattle.cascade.specs.Laws.Cards.{cells-count, grouping-sum, card-value, card-values}
 use Rattle.cascade.specs.Laws.Chosen.{chosen-refuses, chosen-refuses-by-nine, chosen-best}
+use Rattle.cascade.specs.Laws.Planned.{sum-next, sum-within, planned-at}
 use Rattle.cascade.specs.Laws.WellFormed.{card-well-formed}
 
 module _ (n : ℕ) (table : List ℤ) (a : Accepted n table) where
@@ -76,14 +83,63 @@ some-fits-chosen n table limit sizes grouping fit = either (chosen n table limit
 -- ---- Plan's arrays
 
 -- A refusal has arrays of 0.
-pub plan-arrays-refused : (n : ℕ) (table : List ℤ) (k : ℕ) → (sizeArray (refused k) ≡ replicate 12 0) × (cellArray n table (refused k) ≡ replicate 12 (record { group = 0; incoming = 0; outgoing = 0; width = 0; bits = 0 }))
+pub plan-arrays-refused : (n : ℕ) (table : List ℤ) (k : ℕ) → (sizeArray (refused k) ≡ replicate 12 0) × (cellArray n table (refused k) ≡ replicate 12 (record { group = 0; incoming = 0; outgoing = 0; width = 0; bits = 0; common = 0; uses = 0 }))
 unfolding sizeArray cellArray entries padded mostVariables noCell
 plan-arrays-refused n table k = (refl, refl)
 
 -- The arrays of a grouping: its sizes and the numbers of its cells, and 0 behind them.
-pub plan-arrays : (n : ℕ) (table : List ℤ) (sizes : List ℕ) → (sizeArray (accepted sizes) ≡ sizes ++ replicate (12 - length sizes) 0) × (cellArray n table (accepted sizes) ≡ map planCell (cellsFrom n table 0 sizes) ++ replicate (12 - length (map planCell (cellsFrom n table 0 sizes))) noCell)
+pub plan-arrays : (n : ℕ) (table : List ℤ) (sizes : List ℕ) → (sizeArray (accepted sizes) ≡ sizes ++ replicate (12 - length sizes) 0) × (cellArray n table (accepted sizes) ≡ planCells n table 0 sizes ++ replicate (12 - length (planCells n table 0 sizes)) noCell)
 unfolding sizeArray cellArray entries padded mostVariables
 plan-arrays n table sizes = (refl, refl)
+
+-- ---- the commonest outgoing classes of Plan's cells
+
+module _ (n : ℕ) (table : List ℤ) (sizes : List ℕ) (grouping : isGrouping n sizes ≡ true) (k : ℕ) (below : k < length sizes) where
+  -- Cell k as Plan answers it, and the cut where it ends.
+  abbrev planned : PlanCell
+  planned = getD (planCells n table 0 sizes) k noCell
+
+  abbrev end : ℕ
+  end = sumOf (take (suc k) sizes)
+
+  is : planned ≡ planCell (cellOf n table (sumOf (take k sizes)) (getD sizes k 0)) (commonestAt n table end)
+  is = planned-at n table 0 sizes k below noCell ∙ ap₂ (λ cut last. planCell (cellOf n table cut (getD sizes k 0)) (commonestAt n table last)) (zero-add (sumOf (take k sizes))) (let s = sum-next sizes k below in let e : 0 + sumOf (take k sizes) + getD sizes k 0 ≡ end = omega arith in e)
+
+  inside : end ≤ n
+  inside = let s = sum-next sizes k below in let w = sum-within sizes k below in let g = grouping-sum n sizes grouping in omega arith
+
+  -- Its outgoing classes are those of that cut,
+  pub outgoing-there : planned .outgoing ≡ classCount n table end
+  unfolding planCell cellOf
+  outgoing-there = ap (λ cell. cell .outgoing) is ∙ ap (classCount n table) (sym (sum-next sizes k below))
+
+  -- its commonest class is one of them,
+  pub common-known : planned .common < planned .outgoing
+  unfolding planCell
+  common-known = rw (outgoing-there, ap (λ cell. cell .common) is) (commonest-known n table end inside)
+
+  -- with the use count that the class has there,
+  pub common-uses : planned .uses ≡ useCount (classesAt n table end) (planned .common)
+  unfolding planCell
+  common-uses = ap (λ cell. cell .uses) is ∙ commonest-uses n table end inside ∙ ap (useCount (classesAt n table end)) (sym (ap (λ cell. cell .common) is))
+
+  -- no outgoing class is used more,
+  pub common-most : (class : ℕ) → class < planned .outgoing → useCount (classesAt n table end) class ≤ planned .uses
+  unfolding planCell
+  common-most class l = rw (ap (λ cell. cell .uses) is) (commonest-most n table end inside class (rw outgoing-there at l))
+
+  -- and of those used as much it has the smallest number.
+  pub common-smallest : (class : ℕ) → class < planned .outgoing → useCount (classesAt n table end) class ≡ planned .uses → planned .common ≤ class
+  unfolding planCell
+  common-smallest class l tie = rw (ap (λ cell. cell .common) is) (commonest-smallest n table end inside class (rw outgoing-there at l) (tie ∙ ap (λ cell. cell .uses) is))
+
+  -- The last cell has class 0, which all values have.
+  pub common-of-last : length table ≡ 2 ^ n → suc k ≡ length sizes → (planned .common ≡ 0) × (planned .uses ≡ 2 ^ n)
+  unfolding planCell
+  common-of-last whole last =
+      let bottom : end ≡ n = ap sumOf (take-all (suc k) sizes (omega arith)) ∙ grouping-sum n sizes grouping in
+      let common = ap (commonestAt n table) bottom ∙ commonest-at-bottom n table whole in
+      (ap (λ cell. cell .common) is ∙ ap (λ c. c .class) common, ap (λ cell. cell .uses) is ∙ ap (λ c. c .uses) common)
 
 -- ---- what Compile left
 

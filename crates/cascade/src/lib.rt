@@ -1,13 +1,16 @@
 // Groupings of a table's variables, the cells of their cascade, and what Plan and Compile answer.
 pub mod words;
 
-// A cell of a plan.
+// A cell of a plan, with the commonest of its outgoing classes, the smallest number on a tie, and how many blocks of the cut where it
+// ends use that class.
 pub struct Cell {
     pub group: usize,
     pub incoming: usize,
     pub outgoing: usize,
     pub width: usize,
     pub bits: usize,
+    pub common: usize,
+    pub uses: usize,
 }
 
 // Plan's verdict: the number of cells and their memory bits.

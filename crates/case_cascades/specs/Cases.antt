@@ -14,7 +14,7 @@ use Rattle.case_rows.specs.Rows.{sizeAt, byteLent, answerIs, frontHolds, sizesA
 unfoldable pub verdictIs : List ℤ → Answer Totals → Bool
 verdictIs numbers answer = answerIs (sizeAt numbers 3) (λ t. eqb (sizeAt numbers 4) (t .cells) && eqb (sizeAt numbers 5) (t .bits)) answer
 
--- Plan answers so, with these sizes and these cells, five numbers each.
+-- Plan answers so, with these sizes and these cells, seven numbers each.
 unfoldable pub planPasses : List ℤ → List ℤ → List ℤ → List ℤ → Bool
 planPasses numbers table sizes cells =
     let n = sizeAt numbers 1 in

@@ -16,7 +16,7 @@ fn verdict_is(numbers: &[i32], verdict: Verdict) -> bool
     }
 }
 
-// Whether Plan answers so, with these sizes and these cells, five numbers each.
+// Whether Plan answers so, with these sizes and these cells, seven numbers each.
 pub fn plan(numbers: &[i32], table: &[i32], sizes: &[i32], cells: &[i32]) -> bool
     ensures { λ r. ⌜ r ≡ planPasses (now (numbers .entry)) (now (table .entry)) (now (sizes .entry)) (now (cells .entry)) ⌝ }
 {

@@ -4,20 +4,22 @@ ghost use mathlib.Core.List.{flatMap};
 ghost use Rattle.cell_rows.specs.Rows.{cellRow};
 use cascade::Cell;
 
-// Five numbers for each cell: group, incoming count, outgoing count, weight width, bits.
-pub fn cell_rows(cells: [Cell; 12]) -> [usize; 60]
+// Seven numbers for each cell: group, incoming count, outgoing count, weight width, bits, commonest outgoing class, its uses.
+pub fn cell_rows(cells: [Cell; 12]) -> [usize; 84]
     ensures { λ r. ⌜ r ≡ flatMap cellRow cells ⌝ }
 {
-    let mut rows = [0usize; 60];
+    let mut rows = [0usize; 84];
     let mut k = 0;
     while k < 12 {
         let cell = cells[k];
-        let at = 5 * k;
+        let at = 7 * k;
         rows[at] = cell.group;
         rows[at + 1] = cell.incoming;
         rows[at + 2] = cell.outgoing;
         rows[at + 3] = cell.width;
         rows[at + 4] = cell.bits;
+        rows[at + 5] = cell.common;
+        rows[at + 6] = cell.uses;
         k += 1;
     }
     rows

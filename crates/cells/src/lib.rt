@@ -38,29 +38,45 @@ fn width_of_bits(incoming: usize, group: usize, outgoing: usize, bits: usize) ->
 }
 
 // The cell that the choice at cut h takes.
-fn chosen_cell(n: usize, h: usize, counts: &[usize], choices: [Choice; 13]) -> Cell
-    requires { ⌜ CellChosen n h (now counts) choices ⌝ }
-    ensures { λ r. ⌜ r ≡ chosenCell (now (counts .entry)) choices h ⌝ }
+fn chosen_cell(
+    n: usize,
+    h: usize,
+    counts: &[usize],
+    use_counts: &[usize],
+    choices: [Choice; 13],
+) -> Cell
+    requires { ⌜ CellChosen n h (now counts) (now «use_counts») choices ⌝ }
+    ensures { λ r. ⌜ r ≡ chosenCell (now (counts .entry)) (now («use_counts» .entry)) choices h ⌝ }
 {
     let here = choices[h];
     let group = size_of(here);
-    let there = choices[h + group];
+    let end = h + group;
+    let there = choices[end];
     let bits = cost_of(here) - cost_of(there);
     let incoming = counts[h];
-    let outgoing = counts[h + group];
+    let outgoing = counts[end];
+    let commonest = uses::commonest_of_cut(use_counts, end, outgoing);
     Cell {
         group,
         incoming,
         outgoing,
         width: width_of_bits(incoming, group, outgoing, bits),
         bits,
+        common: commonest.class,
+        uses: commonest.uses,
     }
 }
 
 // The sizes and the cells of the chosen grouping, with so many bits in all.
-pub fn list_cells(n: usize, counts: &[usize], choices: [Choice; 13], bits: usize) -> Planned
-    requires { ⌜ ListChosen n (now counts) choices ⌝ }
-    ensures { λ r. ⌜ r ≡ listedPlan (chosenCells (now (counts .entry)) choices n n 0) bits ⌝ }
+pub fn list_cells(
+    n: usize,
+    counts: &[usize],
+    use_counts: &[usize],
+    choices: [Choice; 13],
+    bits: usize,
+) -> Planned
+    requires { ⌜ ListChosen n (now counts) (now «use_counts») choices ⌝ }
+    ensures { λ r. ⌜ r ≡ listedPlan (chosenCells (now (counts .entry)) (now («use_counts» .entry)) choices n n 0) bits ⌝ }
 {
     let mut sizes = [0usize; 12];
     let mut cells = [Cell {
@@ -69,11 +85,13 @@ pub fn list_cells(n: usize, counts: &[usize], choices: [Choice; 13], bits: usize
         outgoing: 0,
         width: 0,
         bits: 0,
+        common: 0,
+        uses: 0,
     }; 12];
     let mut count = 0;
     let mut h = 0;
     while h < n {
-        let cell = chosen_cell(n, h, counts, choices);
+        let cell = chosen_cell(n, h, counts, use_counts, choices);
         sizes[count] = cell.group;
         cells[count] = cell;
         h += cell.group;

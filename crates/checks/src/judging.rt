@@ -2,7 +2,7 @@
 // numbers of it (0 behind its last), three counts, and as many numbers in three rows; 0 for the refusal where there is none:
 //   1 Build    n, places, refusal, node count, offset; table, what stands in front of the lent places
 //   2 Walk     n, offset, X, refusal, value; records
-//   3 Plan     n, A, refusal, count of cells, bits; table, sizes, cells of five numbers each
+//   3 Plan     n, A, refusal, count of cells, bits; table, sizes, cells of seven numbers each
 //   4 Compile  n, A, places, refusal, length, node count, count of cells, bits; table, cells, what stands in front
 //   5 Run      X, refusal, value, words; image
 //   6 Expand   places, refusal; image, what stands in front

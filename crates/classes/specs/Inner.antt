@@ -1,2 +1,3 @@
 -- What inner functions promise and hold.
 pub mod Placing
+pub mod Searched

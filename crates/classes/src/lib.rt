@@ -1,11 +1,12 @@
-// The classes of every cut: each block's class, each class's first block, how many classes were tried for each block, and how many
-// classes a cut has.
+// The classes of every cut: each block's class, each class's first block, how many classes a cut has, how many classes were tried for
+// each block, how many blocks up to and including it have its class, and how many have each class.
 ghost use mathlib.Core.Path.{_≡_};
 ghost use Prim.Native.Nat.{suc, _≤_};
 ghost use lib.ListN.{length};
 ghost use Rattle.blocks.specs.Inner.Layout.{cutPlace, CutsRoom, AllClassed};
-ghost use Rattle.tries.specs.Inner.Rows.{allTries};
+ghost use Rattle.uses.specs.Inner.Rows.{allUseRows};
 ghost use Rattle.classes.specs.Inner.Placing.{CutPlaced};
+ghost use Rattle.classes.specs.Inner.Searched.{SearchRoom, AllSearched};
 
 // The classes of cut h, at their places in the rows of all cuts.
 fn class_cut_at(
@@ -15,10 +16,12 @@ fn class_cut_at(
     classes: &mut [usize],
     firsts: &mut [usize],
     tried: &mut [usize],
+    uses: &mut [usize],
+    use_counts: &mut [usize],
 ) -> usize
-    requires { ⌜ CutsRoom n (now table) (now classes) (now firsts) × (length (now tried) ≡ cutPlace (suc n)) ⌝ }
+    requires { ⌜ CutsRoom n (now table) (now classes) (now firsts) × SearchRoom n (now tried) (now uses) (now «use_counts») ⌝ }
     requires { ⌜ h ≤ n ⌝ }
-    ensures { λ r. ⌜ CutPlaced n (now (table .entry)) h (now (classes .entry)) (now (firsts .entry)) (now (tried .entry)) r (now (classes .exit)) (now (firsts .exit)) (now (tried .exit)) ⌝ }
+    ensures { λ r. ⌜ CutPlaced n (now (table .entry)) h (now (classes .entry)) (now (firsts .entry)) (now (tried .entry)) (now (uses .entry)) (now («use_counts» .entry)) r (now (classes .exit)) (now (firsts .exit)) (now (tried .exit)) (now (uses .exit)) (now («use_counts» .exit)) ⌝ }
 {
     let count = numbers::power(h);
     let size = numbers::power(n - h);
@@ -30,11 +33,13 @@ fn class_cut_at(
         &mut classes[start..end],
         &mut firsts[start..end],
         &mut tried[start..end],
+        &mut uses[start..end],
+        &mut use_counts[start..end],
     )
 }
 
-// The classes of all cuts: each block's class, each class's first block, the class count of each cut, and how many classes were
-// tried for each block.
+// The classes of all cuts: each block's class, each class's first block, the class count of each cut, and what the search tells of
+// each block and of each class.
 pub fn class_cuts(
     n: usize,
     table: &[i32],
@@ -42,15 +47,46 @@ pub fn class_cuts(
     firsts: &mut [usize],
     counts: &mut [usize],
     tried: &mut [usize],
+    uses: &mut [usize],
+    use_counts: &mut [usize],
 )
-    requires { ⌜ CutsRoom n (now table) (now classes) (now firsts) × (length (now tried) ≡ cutPlace (suc n)) ⌝ }
+    requires { ⌜ CutsRoom n (now table) (now classes) (now firsts) × SearchRoom n (now tried) (now uses) (now «use_counts») ⌝ }
     requires { ⌜ length (now counts) ≡ suc n ⌝ }
     ensures { λ r. ⌜ AllClassed n (now (table .entry)) (now (classes .exit)) (now (firsts .exit)) (now (counts .exit)) ⌝ }
-    ensures { λ r. ⌜ now (tried .exit) ≡ allTries n (now (table .entry)) ⌝ }
+    ensures { λ r. ⌜ AllSearched n (now (table .entry)) (now (tried .exit)) (now (uses .exit)) (now («use_counts» .exit)) ⌝ }
 {
     let mut h = 0;
     while h <= n {
-        counts[h] = class_cut_at(n, h, table, classes, firsts, tried);
+        counts[h] = class_cut_at(n, h, table, classes, firsts, tried, uses, use_counts);
         h += 1;
     }
+}
+
+// The same, where of what the search tells only the use counts are asked for.
+pub fn class_table(
+    n: usize,
+    table: &[i32],
+    classes: &mut [usize],
+    firsts: &mut [usize],
+    counts: &mut [usize],
+    use_counts: &mut [usize],
+)
+    requires { ⌜ CutsRoom n (now table) (now classes) (now firsts) × (length (now «use_counts») ≡ cutPlace (suc n)) ⌝ }
+    requires { ⌜ length (now counts) ≡ suc n ⌝ }
+    ensures { λ r. ⌜ AllClassed n (now (table .entry)) (now (classes .exit)) (now (firsts .exit)) (now (counts .exit)) ⌝ }
+    ensures { λ r. ⌜ now («use_counts» .exit) ≡ allUseRows n (now (table .entry)) ⌝ }
+{
+    let mut tried = [0usize; 8191];
+    let mut uses = [0usize; 8191];
+    let places = classes.len();
+    class_cuts(
+        n,
+        table,
+        classes,
+        firsts,
+        counts,
+        &mut tried[..places],
+        &mut uses[..places],
+        use_counts,
+    );
 }

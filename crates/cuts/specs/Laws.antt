@@ -2,4 +2,6 @@
 pub mod Classing
 pub mod Cut
 pub mod Halves
+pub mod Noting
 pub mod Tries
+pub mod Uses

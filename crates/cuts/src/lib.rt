@@ -1,9 +1,9 @@
-// The classes of one cut: the class of each block, one after the other, the first block of each class, and how many classes were
-// tried for each block.
+// The classes of one cut: the class of each block, one after the other, the first block of each class, how many classes were tried
+// for each block, how many blocks up to and including it have its class, and how many have each class.
 ghost use mathlib.Core.Path.{_≡_};
 ghost use Prim.Native.Nat.{_≤_, _<_};
 ghost use lib.ListN.{length};
-ghost use Rattle.cuts.specs.Inner.Classing.{latestClass, cutRows, BlockRoom, blockClassed, HalvesRoom, halvesClassed, CutRoom, CutClassed, countNoted, firstsNoted};
+ghost use Rattle.cuts.specs.Inner.Classing.{latestClass, cutRows, BlockRoom, blockClassed, HalvesRoom, halvesClassed, CutRoom, CutClassed, countNoted, firstsNoted, usesNoted};
 
 // The first block of a new class is noted behind those known, in a row of one place for each block so far.
 fn note_first(firsts: &mut [usize], count: usize, j: usize, class: usize) -> usize
@@ -18,6 +18,15 @@ fn note_first(firsts: &mut [usize], count: usize, j: usize, class: usize) -> usi
     count
 }
 
+// The uses of a class are noted, in a row of one place for each block so far.
+fn note_uses(use_counts: &mut [usize], j: usize, class: usize, uses: usize)
+    requires { ⌜ (class ≤ j) × (j < length (now «use_counts»)) ⌝ }
+    ensures { λ r. ⌜ now («use_counts» .exit) ≡ usesNoted (now («use_counts» .entry)) j class uses ⌝ }
+{
+    use_counts[j] = 0;
+    use_counts[class] = uses;
+}
+
 // The latest class at block j: that of the block just before, and 0 at the first block, where no class is known.
 fn latest_class(classes: &[usize], j: usize) -> usize
     requires { ⌜ j ≤ length (now classes) ⌝ }
@@ -29,7 +38,8 @@ fn latest_class(classes: &[usize], j: usize) -> usize
     classes[j - 1]
 }
 
-// A block is classed: its class and how many were tried are noted, and the block as the first of its class where that is new.
+// A block is classed: its class, how many were tried and how many blocks have it are noted, and the block as the first of its class
+// where that is new.
 fn class_block(
     table: &[i32],
     size: usize,
@@ -39,15 +49,26 @@ fn class_block(
     classes: &mut [usize],
     firsts: &mut [usize],
     tried: &mut [usize],
+    uses: &mut [usize],
+    use_counts: &mut [usize],
 ) -> usize
-    requires { ⌜ BlockRoom (now table) size j (cutRows count (now classes) (now firsts) (now tried)) ⌝ }
-    ensures { λ r. ⌜ cutRows r (now (classes .exit)) (now (firsts .exit)) (now (tried .exit)) ≡ blockClassed (now (table .entry)) size j (now (values .entry)) (cutRows count (now (classes .entry)) (now (firsts .entry)) (now (tried .entry))) ⌝ }
+    requires { ⌜ BlockRoom (now table) size j (cutRows count (now classes) (now firsts) (now tried) (now uses) (now «use_counts»)) ⌝ }
+    ensures { λ r. ⌜ cutRows r (now (classes .exit)) (now (firsts .exit)) (now (tried .exit)) (now (uses .exit)) (now («use_counts» .exit)) ≡ blockClassed (now (table .entry)) size j (now (values .entry)) (cutRows count (now (classes .entry)) (now (firsts .entry)) (now (tried .entry)) (now (uses .entry)) (now («use_counts» .entry))) ⌝ }
 {
     let latest = latest_class(classes, j);
-    let found = search::find_class(table, size, &firsts[..count], latest, values);
+    let found = search::find_class(
+        table,
+        size,
+        &firsts[..count],
+        &use_counts[..count],
+        latest,
+        values,
+    );
     let known = note_first(firsts, count, j, found.class);
     classes[j] = found.class;
     tried[j] = found.tried;
+    uses[j] = found.uses;
+    note_uses(use_counts, j, found.class, found.uses);
     known
 }
 
@@ -61,15 +82,39 @@ fn class_halves(
     classes: &mut [usize],
     firsts: &mut [usize],
     tried: &mut [usize],
+    uses: &mut [usize],
+    use_counts: &mut [usize],
 ) -> usize
-    requires { ⌜ HalvesRoom (now table) size j (now above) (cutRows count (now classes) (now firsts) (now tried)) ⌝ }
-    ensures { λ r. ⌜ cutRows r (now (classes .exit)) (now (firsts .exit)) (now (tried .exit)) ≡ halvesClassed (now (table .entry)) size j (now (above .entry)) (cutRows count (now (classes .entry)) (now (firsts .entry)) (now (tried .entry))) ⌝ }
+    requires { ⌜ HalvesRoom (now table) size j (now above) (cutRows count (now classes) (now firsts) (now tried) (now uses) (now «use_counts»)) ⌝ }
+    ensures { λ r. ⌜ cutRows r (now (classes .exit)) (now (firsts .exit)) (now (tried .exit)) (now (uses .exit)) (now («use_counts» .exit)) ≡ halvesClassed (now (table .entry)) size j (now (above .entry)) (cutRows count (now (classes .entry)) (now (firsts .entry)) (now (tried .entry)) (now (uses .entry)) (now («use_counts» .entry))) ⌝ }
 {
     let middle = above.len() / 2;
     let lower = &above[..middle];
     let upper = &above[middle..];
-    let known = class_block(table, size, 2 * j, lower, count, classes, firsts, tried);
-    class_block(table, size, 2 * j + 1, upper, known, classes, firsts, tried)
+    let known = class_block(
+        table,
+        size,
+        2 * j,
+        lower,
+        count,
+        classes,
+        firsts,
+        tried,
+        uses,
+        use_counts,
+    );
+    class_block(
+        table,
+        size,
+        2 * j + 1,
+        upper,
+        known,
+        classes,
+        firsts,
+        tried,
+        uses,
+        use_counts,
+    )
 }
 
 // The classes of a cut below another: its blocks are the halves of the blocks of the cut above, each a part of the table.
@@ -79,10 +124,12 @@ fn class_cut_below(
     classes: &mut [usize],
     firsts: &mut [usize],
     tried: &mut [usize],
+    uses: &mut [usize],
+    use_counts: &mut [usize],
 ) -> usize
-    requires { ⌜ CutRoom (now table) size (now classes) (now firsts) (now tried) ⌝ }
+    requires { ⌜ CutRoom (now table) size (cutRows 0 (now classes) (now firsts) (now tried) (now uses) (now «use_counts»)) ⌝ }
     requires { ⌜ (length (now classes) ≡ 1 → ⊥) ⌝ }
-    ensures { λ r. ⌜ CutClassed (now (table .entry)) size (length (now (classes .entry))) (cutRows r (now (classes .exit)) (now (firsts .exit)) (now (tried .exit))) ⌝ }
+    ensures { λ r. ⌜ CutClassed (now (table .entry)) size (length (now (classes .entry))) (cutRows r (now (classes .exit)) (now (firsts .exit)) (now (tried .exit)) (now (uses .exit)) (now («use_counts» .exit))) ⌝ }
 {
     let mut count = 0;
     let mut j = 0;
@@ -98,6 +145,8 @@ fn class_cut_below(
             classes,
             firsts,
             tried,
+            uses,
+            use_counts,
         );
         j += 1;
     }
@@ -105,19 +154,33 @@ fn class_cut_below(
 }
 
 // The classes of a cut whose blocks have this size: each block's class, each class's first block, how many classes were tried for
-// each block, and the class count. Cut 0 has one block, the table.
+// each block and how many blocks up to it have its class, each class's use count, and the class count. Cut 0 has one block, the
+// table.
 pub fn class_cut(
     table: &[i32],
     size: usize,
     classes: &mut [usize],
     firsts: &mut [usize],
     tried: &mut [usize],
+    uses: &mut [usize],
+    use_counts: &mut [usize],
 ) -> usize
-    requires { ⌜ CutRoom (now table) size (now classes) (now firsts) (now tried) ⌝ }
-    ensures { λ r. ⌜ CutClassed (now (table .entry)) size (length (now (classes .entry))) (cutRows r (now (classes .exit)) (now (firsts .exit)) (now (tried .exit))) ⌝ }
+    requires { ⌜ CutRoom (now table) size (cutRows 0 (now classes) (now firsts) (now tried) (now uses) (now «use_counts»)) ⌝ }
+    ensures { λ r. ⌜ CutClassed (now (table .entry)) size (length (now (classes .entry))) (cutRows r (now (classes .exit)) (now (firsts .exit)) (now (tried .exit)) (now (uses .exit)) (now («use_counts» .exit))) ⌝ }
 {
     if classes.len() == 1 {
-        return class_block(table, size, 0, table, 0, classes, firsts, tried);
+        return class_block(
+            table,
+            size,
+            0,
+            table,
+            0,
+            classes,
+            firsts,
+            tried,
+            uses,
+            use_counts,
+        );
     }
-    class_cut_below(table, size, classes, firsts, tried)
+    class_cut_below(table, size, classes, firsts, tried, uses, use_counts)
 }

@@ -11,6 +11,7 @@ use Rattle.numbers.specs.Ranges.{mostVariables, widestAddress, isVariables, isL
 use Rattle.numbers.specs.Widths.{railWidth, holds, holdsUnsigned, enough, leastWidth, noneNegative, weightWidth, cellBits}
 use Rattle.blocks.specs.Blocks.{block, blocks, first, lowerHalf, upperHalf, differences}
 use Rattle.blocks.specs.Classes.{same, numberIn, learn, learnAll, distinct, classes, classCount, classOf, railAt}
+use Rattle.uses.specs.Uses.{useCount, classesAt, useCounts, mostUses, commonest, commonestAt}
 use Rattle.diagram.specs.Records.{branches, kinds, recordsBelow, node, recordOf, recordsAt, records, recordNumbers, recordSize, offset, nodeCount}
 use Rattle.diagram.specs.Build.{ofTable, nodeRoom, build, buildAnswer}
 use Rattle.diagram.specs.Bound.{stepAt, isJump, jumps, risingKinds, nodeBound}
@@ -19,7 +20,7 @@ use Rattle.image.specs.Cells.{bitsOf, totalBits}
 use Rattle.image.specs.Commands.{commandBytes, wordCommand, cellCommands, cardCommands, imageOf}
 use Rattle.cascade.specs.Cascade.{wordOf, wordsOf, cellOf, cellsFrom, cardFor}
 use Rattle.cascade.specs.Groupings.{descending, closing, groupingsWithin, groupings, addressWidth, fitsFrom, fits, cost, cheapest, firstCheapest, chosen}
-use Rattle.cascade.specs.Plan.{plan, planCell, noCell, entries, sizeArray, cellArray, totals, planAnswer}
+use Rattle.cascade.specs.Plan.{plan, planCell, planCells, noCell, entries, sizeArray, cellArray, totals, planAnswer}
 use Rattle.cascade.specs.declared.Cell.{Cell as PlanCell}
 use Rattle.cascade.specs.Compile.{imageFor, compile, report, compileAnswer, compileCells, compileBuffer}
 use Rattle.lines.specs.Text.{ascii, decimalDigits, decimal, fields, line}
@@ -40,7 +41,7 @@ data Question : Type 0 where
   boundOf : ℕ → List ℤ → ℕ → ℕ → Question
 
 cellNumbers : PlanCell → List ℕ
-cellNumbers cell = cell .group ∷ cell .incoming ∷ cell .outgoing ∷ cell .width ∷ cell .bits ∷ []
+cellNumbers cell = cell .group ∷ cell .incoming ∷ cell .outgoing ∷ cell .width ∷ cell .bits ∷ cell .common ∷ cell .uses ∷ []
 
 -- A buffer of so many bytes, each 99.
 filled : ℕ → List ℕ
@@ -78,7 +79,7 @@ array width list = list ++ replicate (12 * width - length list) 0
 
 -- A plan of one cell that takes one variable: its numbers, and the bits in all.
 oneCell : List ℕ → ℕ → List ℕ
-oneCell cell bits = array 1 (1 ∷ []) ++ array 5 cell ++ 1 ∷ bits ∷ []
+oneCell cell bits = array 1 (1 ∷ []) ++ array 7 cell ++ 1 ∷ bits ∷ []
 
 -- The table of P1, P2, P3 and P10.
 figure : List ℤ
@@ -98,20 +99,20 @@ cases =
     (text "table 4 0\nnode 1 0 0 0 1\nnode 2 1 0 1 1\nnode 3 2 0 2 1\nnode 4 2 2 0 3\nnode 5 3 3 4 4\nnodes 6\ncell 2 1 2 3 16\ncell 1 2 2 1 8\ncell 1 2 1 1 4\nbits 28\n")
     -- P2
     ∷ asks (planOf 4 2 figure)
-    (numbers (array 1 (2 ∷ 1 ∷ 1 ∷ []) ++ array 5 (2 ∷ 1 ∷ 2 ∷ 3 ∷ 16 ∷ 1 ∷ 2 ∷ 2 ∷ 1 ∷ 8 ∷ 1 ∷ 2 ∷ 1 ∷ 1 ∷ 4 ∷ []) ++ 3 ∷ 28 ∷ []))
+    (numbers (array 1 (2 ∷ 1 ∷ 1 ∷ []) ++ array 7 (2 ∷ 1 ∷ 2 ∷ 3 ∷ 16 ∷ 0 ∷ 2 ∷ 1 ∷ 2 ∷ 2 ∷ 1 ∷ 8 ∷ 0 ∷ 6 ∷ 1 ∷ 2 ∷ 1 ∷ 1 ∷ 4 ∷ 0 ∷ 16 ∷ []) ++ 3 ∷ 28 ∷ []))
     -- P3
     ∷ asks (planOf 4 1 figure) (refused 9)
     -- P4, with both buffer lengths, and a longer one
     ∷ asks (imageIn 1 1 (pos 5 ∷ pos 8 ∷ []) 31) (refused 10)
-    ∷ asks (imageIn 1 1 (pos 5 ∷ pos 8 ∷ []) 32) (numbers (32 ∷ 2 ∷ 1 ∷ 4 ∷ array 5 (1 ∷ 1 ∷ 1 ∷ 2 ∷ 4 ∷ []) ++ smallImage))
-    ∷ asks (imageIn 1 1 (pos 5 ∷ pos 8 ∷ []) 34) (numbers (32 ∷ 2 ∷ 1 ∷ 4 ∷ array 5 (1 ∷ 1 ∷ 1 ∷ 2 ∷ 4 ∷ []) ++ smallImage ++ 99 ∷ 99 ∷ []))
+    ∷ asks (imageIn 1 1 (pos 5 ∷ pos 8 ∷ []) 32) (numbers (32 ∷ 2 ∷ 1 ∷ 4 ∷ array 7 (1 ∷ 1 ∷ 1 ∷ 2 ∷ 4 ∷ 0 ∷ 2 ∷ []) ++ smallImage))
+    ∷ asks (imageIn 1 1 (pos 5 ∷ pos 8 ∷ []) 34) (numbers (32 ∷ 2 ∷ 1 ∷ 4 ∷ array 7 (1 ∷ 1 ∷ 1 ∷ 2 ∷ 4 ∷ 0 ∷ 2 ∷ []) ++ smallImage ++ 99 ∷ 99 ∷ []))
     -- P5 to P8
-    ∷ asks (planOf 1 1 (pos 3 ∷ pos 2 ∷ [])) (numbers (oneCell (1 ∷ 1 ∷ 1 ∷ 1 ∷ 2 ∷ []) 2))
-    ∷ asks (planOf 1 1 (pos 2 ∷ pos 3 ∷ [])) (numbers (oneCell (1 ∷ 1 ∷ 1 ∷ 1 ∷ 2 ∷ []) 2))
-    ∷ asks (planOf 1 1 (pos 4 ∷ pos 2 ∷ [])) (numbers (oneCell (1 ∷ 1 ∷ 1 ∷ 2 ∷ 4 ∷ []) 4))
-    ∷ asks (planOf 1 1 (negℤ (pos 8388608) ∷ pos 8388607 ∷ [])) (numbers (oneCell (1 ∷ 1 ∷ 1 ∷ 24 ∷ 48 ∷ []) 48))
+    ∷ asks (planOf 1 1 (pos 3 ∷ pos 2 ∷ [])) (numbers (oneCell (1 ∷ 1 ∷ 1 ∷ 1 ∷ 2 ∷ 0 ∷ 2 ∷ []) 2))
+    ∷ asks (planOf 1 1 (pos 2 ∷ pos 3 ∷ [])) (numbers (oneCell (1 ∷ 1 ∷ 1 ∷ 1 ∷ 2 ∷ 0 ∷ 2 ∷ []) 2))
+    ∷ asks (planOf 1 1 (pos 4 ∷ pos 2 ∷ [])) (numbers (oneCell (1 ∷ 1 ∷ 1 ∷ 2 ∷ 4 ∷ 0 ∷ 2 ∷ []) 4))
+    ∷ asks (planOf 1 1 (negℤ (pos 8388608) ∷ pos 8388607 ∷ [])) (numbers (oneCell (1 ∷ 1 ∷ 1 ∷ 24 ∷ 48 ∷ 0 ∷ 2 ∷ []) 48))
     -- P9
-    ∷ asks (planOf 2 2 (map pos (7 ∷ 7 ∷ 7 ∷ 7 ∷ []))) (numbers (array 1 (2 ∷ []) ++ array 5 (2 ∷ 1 ∷ 1 ∷ 0 ∷ 0 ∷ []) ++ 1 ∷ 0 ∷ []))
+    ∷ asks (planOf 2 2 (map pos (7 ∷ 7 ∷ 7 ∷ 7 ∷ []))) (numbers (array 1 (2 ∷ []) ++ array 7 (2 ∷ 1 ∷ 1 ∷ 0 ∷ 0 ∷ 0 ∷ 4 ∷ []) ++ 1 ∷ 0 ∷ []))
     ∷ asks (nodesOf 2 2 (map pos (7 ∷ 7 ∷ 7 ∷ 7 ∷ []))) (numbers (1 ∷ 1 ∷ []))
     -- P10
     ∷ asks (boundOf 4 figure 1 1) (numbers (0 ∷ 9 ∷ []))
@@ -119,5 +120,5 @@ cases =
 
 -- Every case's answer is the paper's.
 checked-values : map (λ c. answer (c .question)) cases ≡ map (λ c. c .expected) cases
-unfolding cases asks answer numbers text figure smallImage cellNumbers filled array oneCell numbersFrom every keep tally sumOf leastFrom least mostVariables widestAddress isVariables isLimit within isValue eqZ railWidth holds holdsUnsigned enough leastWidth noneNegative weightWidth cellBits block blocks first lowerHalf upperHalf differences same numberIn learn learnAll distinct classes classCount classOf railAt branches kinds recordsBelow node recordOf recordsAt records recordNumbers recordSize offset nodeCount ofTable nodeRoom build buildAnswer stepAt isJump jumps risingKinds nodeBound bigEndian signedBytes number unsignedAt signedAt bitsOf totalBits commandBytes wordCommand cellCommands cardCommands imageOf wordOf wordsOf cellOf cellsFrom cardFor descending closing groupingsWithin groupings addressWidth fitsFrom fits cost cheapest firstCheapest chosen plan planCell noCell entries sizeArray cellArray totals planAnswer imageFor compile report compileAnswer compileCells compileBuffer padded ascii decimalDigits decimal fields line mostListed isListed imageRoom tableOf listed shownNumbers nodeLine nodeLines cellLine tableText answerText listing flatMap
+unfolding cases asks answer numbers text figure smallImage cellNumbers filled array oneCell numbersFrom every keep tally sumOf leastFrom least mostVariables widestAddress isVariables isLimit within isValue eqZ railWidth holds holdsUnsigned enough leastWidth noneNegative weightWidth cellBits block blocks first lowerHalf upperHalf differences same numberIn learn learnAll distinct classes classCount classOf railAt useCount classesAt useCounts mostUses commonest commonestAt branches kinds recordsBelow node recordOf recordsAt records recordNumbers recordSize offset nodeCount ofTable nodeRoom build buildAnswer stepAt isJump jumps risingKinds nodeBound bigEndian signedBytes number unsignedAt signedAt bitsOf totalBits commandBytes wordCommand cellCommands cardCommands imageOf wordOf wordsOf cellOf cellsFrom cardFor descending closing groupingsWithin groupings addressWidth fitsFrom fits cost cheapest firstCheapest chosen plan planCell planCells noCell entries sizeArray cellArray totals planAnswer imageFor compile report compileAnswer compileCells compileBuffer padded ascii decimalDigits decimal fields line mostListed isListed imageRoom tableOf listed shownNumbers nodeLine nodeLines cellLine tableText answerText listing flatMap
 checked-values = refl

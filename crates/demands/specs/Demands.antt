@@ -16,10 +16,9 @@ use Rattle.operands.specs.Bytes.{AreBytes}
 use Rattle.image.specs.Cells.{Card, Cell, totalBits}
 use Rattle.image.specs.Run.{run, runCard, expand, expandBuffer, cardValues}
 use Rattle.image.specs.Theorems as images
-use Rattle.cascade.specs.Cascade.{cellsFrom}
 use Rattle.cascade.specs.Compile.{imageFor, report, compileAnswer, compileCells, compileBuffer, Report, compiledImage}
 use Rattle.cascade.specs.Groupings.{BestGrouping, isGrouping, fits, cost}
-use Rattle.cascade.specs.Plan.{plan, planCell, noCell, sizeArray, cellArray, totals, planAnswer}
+use Rattle.cascade.specs.Plan.{plan, planCells, noCell, sizeArray, cellArray, totals, planAnswer}
 use Rattle.demands.specs.Checks.{Check, AllHold, FirstFails, Decided}
 use Rattle.demands.specs.Admitted.{buildChecks, walkChecks, FittingGrouping, planChecks, compileChecks, ImageOf, runChecks, expandChecks}
 use Rattle.demands.specs.Laws.Checks.{not-all-hold, one-failure}
@@ -98,7 +97,7 @@ module _ (n : ℕ) (table : List ℤ) (limit : ℕ) where
   pub plan-answers : AllHold (planChecks n table limit) → (best : List ℕ) → BestGrouping n table limit best → planAnswer n table limit ≡ accepted (totals n table best)
   plan-answers = plan-value n table limit
 
-  pub plan-lists : AllHold (planChecks n table limit) → (best : List ℕ) → BestGrouping n table limit best → (sizeArray (plan n table limit) ≡ padded 12 0 best) × (cellArray n table (plan n table limit) ≡ padded 12 noCell (map planCell (cellsFrom n table 0 best)))
+  pub plan-lists : AllHold (planChecks n table limit) → (best : List ℕ) → BestGrouping n table limit best → (sizeArray (plan n table limit) ≡ padded 12 0 best) × (cellArray n table (plan n table limit) ≡ padded 12 noCell (planCells n table 0 best))
   plan-lists = plan-arrays n table limit
 
   -- A refusal is its number alone.
@@ -115,7 +114,7 @@ module _ (n : ℕ) (table : List ℤ) (limit : ℕ) where
   pub compile-answers : (room : ℕ) → AllHold (compileChecks n table limit room) → (best : List ℕ) → BestGrouping n table limit best → compileAnswer n table limit room ≡ accepted (report n table best)
   compile-answers = compile-value n table limit
 
-  pub compile-lists : (room : ℕ) → AllHold (compileChecks n table limit room) → (best : List ℕ) → BestGrouping n table limit best → compileCells n table limit room ≡ padded 12 noCell (map planCell (cellsFrom n table 0 best))
+  pub compile-lists : (room : ℕ) → AllHold (compileChecks n table limit room) → (best : List ℕ) → BestGrouping n table limit best → compileCells n table limit room ≡ padded 12 noCell (planCells n table 0 best)
   compile-lists = compile-cells n table limit
 
   pub compile-lists-nothing : (room k : ℕ) → compileAnswer n table limit room ≡ refused k → compileCells n table limit room ≡ replicate 12 noCell

@@ -10,7 +10,7 @@ pub extern "C" fn panstrait_plan(
     table: &[i32],
     limit: usize,
     sizes: &mut [usize; 12],
-    cells: &mut [usize; 60],
+    cells: &mut [usize; 84],
     count: &mut usize,
     bits: &mut usize,
 ) -> u8
@@ -43,7 +43,7 @@ pub extern "C" fn panstrait_compile(
     table: &[i32],
     limit: usize,
     image: &mut [u8],
-    cells: &mut [usize; 60],
+    cells: &mut [usize; 84],
     length: &mut usize,
     nodes: &mut usize,
     count: &mut usize,

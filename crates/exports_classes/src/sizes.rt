@@ -1,17 +1,48 @@
 // The sizes that rows lent by a caller must have.
 ghost use mathlib.Core.Path.{_≡_};
+ghost use mathlib.Core.List.{[], _∷_};
+ghost use lib.Dec.{eqb};
+ghost use Rattle.numbers.specs.Lists.{every};
 ghost use Rattle.exports_classes.specs.Classing.{sizesFit};
 
-// Whether a table and four rows, given by their lengths, have the sizes that the classes of all cuts need.
+// Whether five rows, given by their lengths, have so many places each.
+fn rows_have(
+    places: usize,
+    classes: usize,
+    firsts: usize,
+    tried: usize,
+    uses: usize,
+    use_counts: usize,
+) -> bool
+    ensures { λ r. ⌜ r ≡ every (eqb places) (classes ∷ firsts ∷ tried ∷ uses ∷ «use_counts» ∷ []) ⌝ }
+{
+    if places != classes {
+        return false;
+    }
+    if places != firsts {
+        return false;
+    }
+    if places != tried {
+        return false;
+    }
+    if places != uses {
+        return false;
+    }
+    places == use_counts
+}
+
+// Whether a table, the row of counts and five other rows, given by their lengths, have the sizes that the classes of all cuts need.
 pub(crate) fn sizes_fit(
     n: usize,
     values: usize,
-    blocks: usize,
-    firsts: usize,
     cuts: usize,
+    classes: usize,
+    firsts: usize,
     tried: usize,
+    uses: usize,
+    use_counts: usize,
 ) -> bool
-    ensures { λ r. ⌜ r ≡ sizesFit n values blocks firsts cuts tried ⌝ }
+    ensures { λ r. ⌜ r ≡ sizesFit n values cuts (classes ∷ firsts ∷ tried ∷ uses ∷ «use_counts» ∷ []) ⌝ }
 {
     if 12 < n {
         return false;
@@ -19,15 +50,9 @@ pub(crate) fn sizes_fit(
     if values != numbers::power(n) {
         return false;
     }
-    let places = numbers::power(n + 1) - 1;
-    if blocks != places {
-        return false;
-    }
-    if firsts != places {
-        return false;
-    }
     if cuts != n + 1 {
         return false;
     }
-    tried == places
+    let places = numbers::power(n + 1) - 1;
+    rows_have(places, classes, firsts, tried, uses, use_counts)
 }

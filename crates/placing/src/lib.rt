@@ -21,6 +21,8 @@ pub fn not_compiled(number: u8) -> Compiled
             outgoing: 0,
             width: 0,
             bits: 0,
+            common: 0,
+            uses: 0,
         }; 12],
     }
 }

@@ -3,6 +3,7 @@ ghost use mathlib.Core.Path.{_≡_};
 ghost use mathlib.Core.Bool.{true};
 ghost use Rattle.numbers.specs.Ranges.{isLimit};
 ghost use Rattle.blocks.specs.Inner.Layout.{AllClassed};
+ghost use Rattle.uses.specs.Inner.Rows.{allUseRows};
 ghost use Rattle.diagram.specs.Accepted.{Accepted};
 ghost use Rattle.cascade.specs.Plan.{Plans};
 ghost use Rattle.prices.specs.Inner.Ready.{RowsKnown, PlanRoom};
@@ -25,24 +26,36 @@ pub(crate) fn refused_plan(number: u8) -> Planned
             outgoing: 0,
             width: 0,
             bits: 0,
+            common: 0,
+            uses: 0,
         }; 12],
     }
 }
 
 // Plan for a table and a limit that passed their checks, from the rows of its cuts.
-fn plan_cuts(n: usize, table: &[i32], limit: usize, firsts: &[usize], counts: &[usize]) -> Planned
+fn plan_cuts(
+    n: usize,
+    table: &[i32],
+    limit: usize,
+    firsts: &[usize],
+    counts: &[usize],
+    use_counts: &[usize],
+) -> Planned
     requires { ⌜ RowsKnown n (now table) (now firsts) (now counts) × (isLimit limit ≡ true) ⌝ }
+    requires { ⌜ now «use_counts» ≡ allUseRows n (now table) ⌝ }
     ensures { λ r. ⌜ Plans n (now (table .entry)) limit r ⌝ }
 {
     let choices = choices::choose_all(n, limit, table, firsts, counts);
     let top = choices[0];
     match top {
         Choice::NoList => refused_plan(9),
-        Choice::Costing { cost, size: _ } => cells::list_cells(n, counts, choices, cost),
+        Choice::Costing { cost, size: _ } => {
+            cells::list_cells(n, counts, use_counts, choices, cost)
+        }
     }
 }
 
-// The classes of all cuts of a table, and from them its plan. How many classes were tried is not asked for.
+// The classes of all cuts of a table with their use counts, and from them its plan.
 fn plan_table(
     n: usize,
     table: &[i32],
@@ -55,10 +68,10 @@ fn plan_table(
     ensures { λ r. ⌜ Plans n (now (table .entry)) limit r ⌝ }
     ensures { λ r. ⌜ AllClassed n (now (table .entry)) (now (classes .exit)) (now (firsts .exit)) (now (counts .exit)) ⌝ }
 {
-    let mut tried = [0usize; 8191];
+    let mut use_counts = [0usize; 8191];
     let places = classes.len();
-    classes::class_cuts(n, table, classes, firsts, counts, &mut tried[..places]);
-    plan_cuts(n, table, limit, firsts, counts)
+    classes::class_table(n, table, classes, firsts, counts, &mut use_counts[..places]);
+    plan_cuts(n, table, limit, firsts, counts, &use_counts[..places])
 }
 
 // The same in rows for the largest table.

@@ -41,19 +41,19 @@ pub fn reach(n: usize, table: &[i32], limit: usize) -> Reached
     let mut classes = [0usize; 8191];
     let mut firsts = [0usize; 8191];
     let mut counts = [0usize; 13];
-    let mut tried = [0usize; 8191];
+    let mut use_counts = [0usize; 8191];
     match check_call(n, table, limit) {
         Checked::Refused(number) => refused_reach(number),
         Checked::Passed => {
             let cuts = n + 1;
             let places = numbers::power(cuts) - 1;
-            classes::class_cuts(
+            classes::class_table(
                 n,
                 table,
                 &mut classes[..places],
                 &mut firsts[..places],
                 &mut counts[..cuts],
-                &mut tried[..places],
+                &mut use_counts[..places],
             );
             counting::reach_counts(n, limit, &counts[..cuts])
         }

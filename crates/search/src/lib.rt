@@ -1,16 +1,24 @@
-// The class of a block among those known, and how many of them are tried until it is found.
+// The class of a block among those known, how many of them are tried until it is found, and how many blocks have it so far.
 ghost use mathlib.Core.Path.{_≡_};
 ghost use Prim.Native.Nat.{_+_, _*_, _≤_};
 ghost use lib.ListN.{length};
 ghost use Rattle.blocks.specs.Blocks.{differences};
 ghost use Rattle.blocks.specs.Classes.{same};
 ghost use Rattle.blocks.specs.Inner.Layout.{part};
-ghost use Rattle.search.specs.Inner.Searching.{partDifferences, PartsWithin, firstBetween, KnownClasses, foundAmong};
+ghost use Rattle.search.specs.Inner.Searching.{partDifferences, PartsWithin, firstBetween, KnownClasses, lookedUp, usesWith, SmallCounts, foundAmong};
 
-// What the search for a block's class finds: the class, and how many classes were tried, that one included.
+// A class that was looked up, and how many classes were tried, that one included.
+struct Looked {
+    class: usize,
+    tried: usize,
+}
+
+// What the search for a block's class finds: the class, how many classes were tried, that one included, and how many blocks up to
+// and including this one have it.
 pub struct Found {
     pub class: usize,
     pub tried: usize,
+    pub uses: usize,
 }
 
 // Whether part j of a table has the differences of these values.
@@ -51,21 +59,15 @@ fn find_between(
 
 // The class of a block among the known ones, each given by its first block; where none is equal, the next new number. The latest
 // class, that of the block just before, is tried first, then the others from class 0 up.
-pub fn find_class(
-    table: &[i32],
-    size: usize,
-    firsts: &[usize],
-    latest: usize,
-    values: &[i32],
-) -> Found
+fn look_up(table: &[i32], size: usize, firsts: &[usize], latest: usize, values: &[i32]) -> Looked
     requires { ⌜ KnownClasses (now table) size (now firsts) latest ⌝ }
-    ensures { λ r. ⌜ r ≡ foundAmong (partDifferences (now (table .entry)) size (now (firsts .entry))) latest (differences (now (values .entry))) ⌝ }
+    ensures { λ r. ⌜ r ≡ lookedUp (partDifferences (now (table .entry)) size (now (firsts .entry))) latest (differences (now (values .entry))) ⌝ }
 {
     if firsts.len() == 0 {
-        return Found { class: 0, tried: 0 };
+        return Looked { class: 0, tried: 0 };
     }
     if same_part(table, size, firsts[latest], values) {
-        return Found {
+        return Looked {
             class: latest,
             tried: 1,
         };
@@ -74,7 +76,7 @@ pub fn find_class(
     if before < latest {
         // The latest, and all up to this one.
         let tried = before + 2;
-        return Found {
+        return Looked {
             class: before,
             tried,
         };
@@ -83,10 +85,42 @@ pub fn find_class(
     if class < firsts.len() {
         // All up to this one, the latest among them.
         let tried = class + 1;
-        return Found { class, tried };
+        return Looked { class, tried };
     }
-    Found {
+    Looked {
         class,
         tried: class,
+    }
+}
+
+// How many blocks have a class with one block more, from the use counts so far; a class without one is new.
+fn uses_with(use_counts: &[usize], class: usize) -> usize
+    requires { ⌜ SmallCounts (now «use_counts») ⌝ }
+    ensures { λ r. ⌜ r ≡ usesWith (now («use_counts» .entry)) class ⌝ }
+{
+    if class < use_counts.len() {
+        return use_counts[class] + 1;
+    }
+    1
+}
+
+// The class of a block among the known ones, each given by its first block and by how many blocks have it so far; where none is
+// equal, the next new number.
+pub fn find_class(
+    table: &[i32],
+    size: usize,
+    firsts: &[usize],
+    use_counts: &[usize],
+    latest: usize,
+    values: &[i32],
+) -> Found
+    requires { ⌜ KnownClasses (now table) size (now firsts) latest × SmallCounts (now «use_counts») ⌝ }
+    ensures { λ r. ⌜ r ≡ foundAmong (partDifferences (now (table .entry)) size (now (firsts .entry))) (now («use_counts» .entry)) latest (differences (now (values .entry))) ⌝ }
+{
+    let looked = look_up(table, size, firsts, latest, values);
+    Found {
+        class: looked.class,
+        tried: looked.tried,
+        uses: uses_with(use_counts, looked.class),
     }
 }

@@ -2,6 +2,7 @@
 #![allow(dead_code)]
 
 use panstrait_reference::{build, compile, report, Built, Cell, Compiled, Refusal};
+use panstrait_samples::cases::ChosenCell;
 use panstrait_samples::oracle::Numbers;
 use panstrait_samples::*;
 
@@ -43,8 +44,41 @@ pub fn listing_input(n: u8, limit: u8, values: &[i32]) -> Vec<u8> {
     input
 }
 
-/// Group, incoming, outgoing, width and bits of each cell.
-pub fn fields(cells: &[Cell]) -> Vec<[usize; 5]> {
-    let fields = |c: &Cell| [c.group, c.incoming, c.outgoing, c.width, c.bits];
+/// The numbers of each cell.
+pub fn fields(cells: &[Cell]) -> Vec<ChosenCell> {
+    let fields = |c: &Cell| {
+        [
+            c.group,
+            c.incoming,
+            c.outgoing,
+            c.width,
+            c.bits,
+            c.commonest,
+            c.uses,
+        ]
+    };
     cells.iter().map(fields).collect()
+}
+
+/// The commonest class where each cell ends, with its use count.
+pub fn commonest(cells: &[Cell]) -> Vec<(usize, usize)> {
+    cells.iter().map(|c| (c.commonest, c.uses)).collect()
+}
+
+/// Each of many tables of small and middling size.
+pub fn for_each_table(seed: u64, mut check: impl FnMut(usize, &[i32])) {
+    let mut random = Random(seed);
+    for n in 1..=8 {
+        let mut tables = tables::all(n, &mut random, 20);
+        tables.extend((0..20).map(|_| tables::wandering(n, &mut random)));
+        tables.extend((0..20).map(|_| tables::contested(n, &mut random)));
+        tables.iter().for_each(|table| check(n, table));
+    }
+}
+
+/// Each of them at each of its cuts.
+pub fn for_each_cut(seed: u64, mut check: impl FnMut(usize, &[i32], usize)) {
+    for_each_table(seed, |n, table| {
+        (0..=n).for_each(|cut| check(n, table, cut));
+    });
 }

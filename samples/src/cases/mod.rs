@@ -23,11 +23,11 @@ pub use older::{older_images, OlderImage, OLDER_FALL, OLDER_PAIR};
 pub use pair_faults::{numbers_of_any_size, pair_images, wrong_pairs, wrong_sizes, PairImage};
 pub use pairs::{norm_answer, pair_runs, PairRun, NORM_IMAGE, TWO_BITS, TWO_BITS_IMAGE};
 pub use passing::{passing_images, PassingImage};
-pub use plans::{chosen_plans, refused_plans, ChosenPlan, RefusedPlan};
+pub use plans::{chosen_plans, refused_plans, ChosenCell, ChosenPlan, RefusedPlan};
 pub use reaches::{reaches, Reach, COUNTED, STRIPES};
 pub use refused::{refused_images, RefusedImage};
 pub use reports::{reports, Report};
-pub use searches::{searches, Search};
+pub use searches::{searches, Block, Search};
 pub use sums::{sum_calls, sum_calls_by_faults, wrong_remainder_bits, wrong_variables, SumCall};
 pub use widths::{weight_widths, WeightWidth};
 
@@ -47,6 +47,10 @@ pub const EXTREMES: [(i32, i32, i32); 2] = [
 /// A table over 4 variables for which the groupings 2, 1, 1 and 1, 3 both cost
 /// 40 bits, and no other that fits limit 4 costs less.
 pub const TIE: [i32; 16] = [0, 0, 0, 0, -2, -2, -2, 0, -3, -3, -3, -3, -5, -3, -5, -5];
+
+/// A table over 4 variables that has, at cut 3, one, three, three and one block of
+/// its four classes.
+pub const EQUAL_USES: [i32; 16] = [3, 2, 3, 1, 2, 0, 2, 2, 2, 0, 0, 3, 0, 0, 0, 0];
 
 /// The records of `FIGURE`.
 pub const FIGURE_RECORDS: [[i32; RECORD]; 5] = [

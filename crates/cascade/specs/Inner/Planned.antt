@@ -8,9 +8,8 @@ use lib.IntN.{ℤ}
 use Rattle.numbers.specs.Answers.{accepted}
 use Rattle.numbers.specs.Lists.{padded}
 use Rattle.numbers.specs.Ranges.{mostVariables}
-use Rattle.cascade.specs.Cascade.{cellsFrom}
 use Rattle.cascade.specs.Groupings.{cost, isGrouping}
-use Rattle.cascade.specs.Plan.{plan, planCell, noCell}
+use Rattle.cascade.specs.Plan.{plan, planCells, noCell}
 use Rattle.cascade.specs.declared.Cell.{Cell}
 
 -- The sizes of the first so many planned cells.
@@ -20,7 +19,7 @@ groups cells count = map (λ cell. cell .group) (take count cells)
 -- Plan's cells for a grouping of a table: their number and their bits.
 pub record PlannedAs (n : ℕ) (table : List ℤ) (sizes : List ℕ) (cells : List Cell) (count bits : ℕ) : Type 0 where
   pub grouping : isGrouping n sizes ≡ true
-  pub listed : cells ≡ padded mostVariables noCell (map planCell (cellsFrom n table 0 sizes))
+  pub listed : cells ≡ padded mostVariables noCell (planCells n table 0 sizes)
   pub counted : count ≡ length sizes
   pub total : bits ≡ cost n table sizes
 

@@ -1,32 +1,63 @@
 -- From Plan's promise to its planned cells.
-use Prim.Native.Nat.{ℕ, _+_, _≤_}
+use Prim.Native.Nat.{ℕ, zero, suc, _+_, _≤_, _<_}
 use mathlib.Core.Path.{_≡_, refl, sym, _∙_, ap, ap₂}
 use mathlib.Core.List.{List, [], _∷_, map}
+use native.Mathlib.Nat.{add-zero, add-assoc}
 use native.Mathlib.Omega.{arith}
-use lib.ListN.{length, take, length-map}
+use lib.ListN.{length, getD, take, drop, length-map, take-append-drop}
+use lib.Seq.{take-suc}
 use lib.IntN.{ℤ}
 use Rattle.numbers.specs.Answers.{Answer, accepted, refused, mapAnswer}
+use Rattle.numbers.specs.Lists.{sumOf}
 use Rattle.numbers.specs.Ranges.{mostVariables}
 use Rattle.numbers.specs.Laws.Padding.{length-padded, take-padded}
+use Rattle.numbers.specs.Laws.Tallies.{sum-append}
+use Rattle.uses.specs.Uses.{commonestAt}
 use Rattle.diagram.specs.Accepted.{Accepted}
-use Rattle.cascade.specs.Cascade.{cellOf, cellsFrom}
+use Rattle.cascade.specs.Cascade.{cellOf}
 use Rattle.cascade.specs.Groupings.{cost}
-use Rattle.cascade.specs.Plan.{plan, planCell, noCell, entries, cellArray, Totals, totals, planAnswer, judgement, Plans}
+use Rattle.cascade.specs.Plan.{plan, planCell, planCells, noCell, entries, cellArray, Totals, totals, planAnswer, judgement, Plans}
 use Rattle.cascade.specs.Inner.Planned.{groups, PlannedAs, Chosen}
 use Rattle.cascade.specs.declared.Cell.{Cell}
 use Rattle.cascade.specs.declared.Planned.{Planned}
 use Rattle.cascade.specs.declared.Verdict.the-variants.{Grouping, Refused}
 use Rattle.cascade.specs.Laws.Admitting.{never-both, plan-admits}
-use Rattle.cascade.specs.Laws.Cards.{cells-count}
 use Rattle.cascade.specs.Laws.Cells.{variables-most}
 use Rattle.cascade.specs.Laws.Chosen.{chosen-best}
 use Rattle.cascade.specs.Laws.Groupings.{grouping-length}
 
--- The sizes of a list of cells.
-pub groups-back : (n : ℕ) (table : List ℤ) (h : ℕ) (sizes : List ℕ) → map (λ cell. cell .group) (map planCell (cellsFrom n table h sizes)) ≡ sizes
-unfolding planCell cellsFrom cellOf
+-- ---- where a cell begins and ends
+
+module _ (sizes : List ℕ) (k : ℕ) (below : k < length sizes) where
+  -- The sizes up to cell k,
+  pub sum-next : sumOf (take (suc k) sizes) ≡ sumOf (take k sizes) + getD sizes k 0
+  unfolding sumOf
+  sum-next = ap sumOf (take-suc sizes k 0 below) ∙ sum-append (take k sizes) (getD sizes k 0 ∷ []) ∙ ap (λ m. sumOf (take k sizes) + m) (add-zero (getD sizes k 0))
+
+  -- which are part of all.
+  pub sum-within : sumOf (take k sizes) + getD sizes k 0 ≤ sumOf sizes
+  sum-within = let e = ap sumOf (sym (take-append-drop (suc k) sizes)) ∙ sum-append (take (suc k) sizes) (drop (suc k) sizes) in let s = sum-next in omega arith
+
+-- ---- planned cells
+
+-- The sizes of a list of cells,
+pub groups-back : (n : ℕ) (table : List ℤ) (h : ℕ) (sizes : List ℕ) → map (λ cell. cell .group) (planCells n table h sizes) ≡ sizes
+unfolding planCell planCells cellOf
 groups-back n table h [] = refl
 groups-back n table h (g ∷ sizes) = ap (λ rest. g ∷ rest) (groups-back n table (h + g) sizes)
+
+-- their number,
+pub planned-count : (n : ℕ) (table : List ℤ) (h : ℕ) (sizes : List ℕ) → length (planCells n table h sizes) ≡ length sizes
+planned-count n table h sizes = sym (length-map (planCells n table h sizes) (λ cell. cell .group)) ∙ ap length (groups-back n table h sizes)
+
+-- and each of them: that of its cut and its size, with the commonest class where it ends.
+pub planned-at : (n : ℕ) (table : List ℤ) (h : ℕ) (sizes : List ℕ) (k : ℕ) → k < length sizes → (d : Cell) → let cut = h + sumOf (take k sizes) in getD (planCells n table h sizes) k d ≡ planCell (cellOf n table cut (getD sizes k 0)) (commonestAt n table (cut + getD sizes k 0))
+unfolding planCells sumOf
+planned-at n table h [] k below d = absurd (omega arith)
+planned-at n table h (g ∷ sizes) zero below d = ap (λ cut. planCell (cellOf n table cut g) (commonestAt n table (cut + g))) (sym (add-zero h))
+planned-at n table h (g ∷ sizes) (suc k) below d =
+    planned-at n table (h + g) sizes k (omega arith) d
+    ∙ ap (λ cut. planCell (cellOf n table cut (getD sizes k 0)) (commonestAt n table (cut + getD sizes k 0))) (add-assoc h g (sumOf (take k sizes)))
 
 module _ {n : ℕ} {table : List ℤ} {sizes : List ℕ} {cells : List Cell} {count bits : ℕ} (a : Accepted n table) (p : PlannedAs n table sizes cells count bits) where
   -- There are at most as many as variables, in an array of 12.
@@ -35,13 +66,13 @@ module _ {n : ℕ} {table : List ℤ} {sizes : List ℕ} {cells : List Cell} {co
 
   pub places : length cells ≡ 12
   unfolding mostVariables
-  places = ap length (p .listed) ∙ length-padded noCell 12 (map planCell (cellsFrom n table 0 sizes)) (let c = length-map (cellsFrom n table 0 sizes) planCell ∙ cells-count n table 0 sizes in let f = few in let d = p .counted in omega arith)
+  places = ap length (p .listed) ∙ length-padded noCell 12 (planCells n table 0 sizes) (let c = planned-count n table 0 sizes in let f = few in let d = p .counted in omega arith)
 
   -- The first cells are the grouping's.
-  pub front : take count cells ≡ map planCell (cellsFrom n table 0 sizes)
+  pub front : take count cells ≡ planCells n table 0 sizes
   front =
-      ap₂ take (p .counted ∙ sym (length-map (cellsFrom n table 0 sizes) planCell ∙ cells-count n table 0 sizes)) (p .listed)
-      ∙ take-padded noCell mostVariables (map planCell (cellsFrom n table 0 sizes))
+      ap₂ take (p .counted ∙ sym (planned-count n table 0 sizes)) (p .listed)
+      ∙ take-padded noCell mostVariables (planCells n table 0 sizes)
 
   pub groups-are : groups cells count ≡ sizes
   unfolding groups

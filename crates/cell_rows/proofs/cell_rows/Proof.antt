@@ -1,27 +1,35 @@
 -- `cell_rows::cell_rows` meets its contract. The loop's invariant: the rows of the cells so far. Assumes nothing.
-use Prim.Native.Nat.{_-_}
+use Prim.Native.Nat.{ℕ, _-_, _*_}
 use mathlib.Core.Path.{_≡_}
+use mathlib.Core.List.{List}
 use native.Mathlib.Omega.{arith}
-use lib.ListN.{length}
+use lib.ListN.{length, replicate}
 use mir.Facts.{fits-of-lt}
-use Rattle.numbers.specs.Lists.{padded}
 use Rattle.cascade.specs.Plan.{noCell}
 use Rattle.cell_rows.specs.Laws.Rows.{RowsTo, no-rows, row-more, all-rows}
 use Rattle.cell_rows.proofs.cell_rows.Statement.{statement}
 use Rattle.cell_rows.proofs.cell_rows.Tie as tie
 
 abbrev Inv-loop : tie.InvT-loop
-Inv-loop cells rows₀ k₀ rows k = RowsTo cells k rows
+Inv-loop cells rows₀ k₀ rows k = RowsTo cells rows₀ k rows
 
 abbrev μ-loop : tie.MeasureT-loop
 μ-loop cells rows₀ k₀ rows k = 12 - k
 
-places : (c : tie.Start Inv-loop μ-loop) → length (c .args .t1) ≡ 12
-places c = c .good .0 .1 .0 .1
+-- The row before the first cell.
+abbrev blank : List ℕ
+blank = replicate 84 0
+
+-- There are 12 cells, with a place for each of their numbers.
+module _ (c : tie.Start Inv-loop μ-loop) where
+  count : length (c .args .t1) ≡ 12
+  count = c .good .0 .1 .0 .1
+
+  places : length blank ≡ 7 * length (c .args .t1)
+  places = rw count
 
 loop-holds : tie.Need-loop-holds Inv-loop μ-loop
-unfolding padded
-loop-holds c = no-rows (c .args .t1) (places c)
+loop-holds c = no-rows (c .args .t1) blank (places c)
 
 mul-cell : tie.Need-mul-cell Inv-loop μ-loop
 mul-cell c = fits-of-lt (let l = c .loop-test .taken in omega arith)
@@ -74,6 +82,24 @@ mul-rows-5 c = fits-of-lt (let l = c .before .loop-test .taken in omega arith)
 array-write-rows-5 : tie.Need-array-write-rows-5 Inv-loop μ-loop
 array-write-rows-5 c = let l = c .before .loop-test .taken in omega arith
 
+add-rows-5 : tie.Need-add-rows-5 Inv-loop μ-loop
+add-rows-5 c = fits-of-lt (let l = c .before .loop-test .taken in omega arith)
+
+mul-rows-6 : tie.Need-mul-rows-6 Inv-loop μ-loop
+mul-rows-6 c = fits-of-lt (let l = c .before .loop-test .taken in omega arith)
+
+array-write-rows-6 : tie.Need-array-write-rows-6 Inv-loop μ-loop
+array-write-rows-6 c = let l = c .before .loop-test .taken in omega arith
+
+add-rows-6 : tie.Need-add-rows-6 Inv-loop μ-loop
+add-rows-6 c = fits-of-lt (let l = c .before .loop-test .taken in omega arith)
+
+mul-rows-7 : tie.Need-mul-rows-7 Inv-loop μ-loop
+mul-rows-7 c = fits-of-lt (let l = c .before .loop-test .taken in omega arith)
+
+array-write-rows-7 : tie.Need-array-write-rows-7 Inv-loop μ-loop
+array-write-rows-7 c = let l = c .before .loop-test .taken in omega arith
+
 add-k : tie.Need-add-k Inv-loop μ-loop
 add-k c = fits-of-lt (let l = c .before .loop-test .taken in omega arith)
 
@@ -85,10 +111,14 @@ unfolding noCell
 loop-again c =
     let i = c .before in
     let s = i .before .before in
-    row-more (s .args .t1) (places s) (i .before .loop .k) (i .before .loop .rows) (i .before .loop .inv) (i .loop-test .taken)
+    let l = i .loop-test .taken in
+    row-more (s .args .t1) blank (places s) (i .before .loop .k) (i .before .loop .rows) (i .before .loop .inv) (rw (count s) l)
 
 returns : tie.Need-returns Inv-loop μ-loop
-returns c = let s = c .before .before in all-rows (s .args .t1) (places s) (c .before .loop .k) (c .before .loop .rows) (c .before .loop .inv) (c .loop-test .left)
+returns c =
+    let s = c .before .before in
+    let l = c .loop-test .left in
+    all-rows (s .args .t1) blank (places s) (c .before .loop .k) (c .before .loop .rows) (c .before .loop .inv) (rw (count s) l)
 
 pub cell-rows-spec : {M : Type 1} → statement M
 cell-rows-spec =
@@ -114,6 +144,12 @@ cell-rows-spec =
     add-rows-4
     mul-rows-5
     array-write-rows-5
+    add-rows-5
+    mul-rows-6
+    array-write-rows-6
+    add-rows-6
+    mul-rows-7
+    array-write-rows-7
     add-k
     loop-less
     loop-again

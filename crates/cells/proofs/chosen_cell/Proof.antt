@@ -5,35 +5,41 @@ use native.Mathlib.Omega.{arith}
 use lib.ListN.{getD}
 use mir.Facts.{fits-of-lt}
 use borrow.Author.Needs.{needs}
+use Rattle.uses.specs.Uses.{commonest}
+use Rattle.uses.specs.Inner.Rows.{inCut}
 use Rattle.cascade.specs.Inner.Choices.{costOf}
 use Rattle.cascade.specs.declared.Choice.the-variants.{NoList}
-use Rattle.cells.specs.Inner.Listed.{sizeAt, bitsAt, widthOfBits, chosenCell}
-use Rattle.cells.specs.Laws.Leading.{cost-there, places, bits-ready}
+use Rattle.cells.specs.Inner.Listed.{sizeAt, bitsAt, widthOfBits, commonAt, chosenCell}
+use Rattle.cells.specs.Laws.Leading.{cost-there, places, moves, bits-ready, uses-inside}
 use Rattle.cells.proofs.chosen_cell.Statement.{statement}
 use Rattle.cells.proofs.chosen_cell.Tie as tie
 
 mul-here : tie.Need-mul-here
-mul-here c = fits-of-lt (let p = places (c .before .pre) .0 in omega arith)
+mul-here c = fits-of-lt (let p = places (c .before .before .pre) .0 in omega arith)
 
 array-copy-out-here : tie.Need-array-copy-out-here
-array-copy-out-here c = let p = places (c .before .pre) .0 in omega arith
+array-copy-out-here c = let p = places (c .before .before .pre) .0 in omega arith
 
 size-of-requires : tie.Need-size-of-requires
 size-of-requires c κs = search needs
 
 -- The size that the choice takes.
-is-size : (c : tie.After-size-of) → c .size-of .result ≡ sizeAt (c .before .before .before .args .t4) (c .before .before .before .args .h)
-unfolding sizeAt
-is-size c = c .size-of .ensures
+module _ (c : tie.After-size-of) where
+  abbrev start : tie.Start
+  start = c .before .before .before .before
 
-add-there : tie.Need-add-there
-add-there c = fits-of-lt (let e = is-size c in let p = places (c .before .before .before .pre) .1 .0 in omega arith)
+  is-size : c .size-of .result ≡ sizeAt (start .args .t5) (start .args .h)
+  unfolding sizeAt
+  is-size = c .size-of .ensures
+
+add-end : tie.Need-add-end
+add-end c = fits-of-lt (let e = is-size c in let p = places (start c .pre) .1 .0 in omega arith)
 
 mul-there : tie.Need-mul-there
-mul-there c = fits-of-lt (let e = is-size c in let p = places (c .before .before .before .pre) .1 .0 in omega arith)
+mul-there c = fits-of-lt (let e = is-size c in let p = places (start c .pre) .1 .0 in omega arith)
 
 array-copy-out-there : tie.Need-array-copy-out-there
-array-copy-out-there c = let e = is-size c in let p = places (c .before .before .before .pre) .1 .0 in omega arith
+array-copy-out-there c = let e = is-size c in let p = places (start c .pre) .1 .0 in omega arith
 
 cost-of-requires : tie.Need-cost-of-requires
 cost-of-requires c κs = search needs
@@ -42,48 +48,55 @@ cost-of-requires-2 : tie.Need-cost-of-requires-2
 cost-of-requires-2 c κs = search needs
 
 -- What the choices at both ends cost.
-cost-below : (c : tie.After-cost-of2) → let a = c .before .before .before .before .before .before .args in c .cost-of2 .result ≡ costOf (getD (a .t4) (a .h + sizeAt (a .t4) (a .h)) NoList)
-cost-below c = let a = c .before .before .before .before .before .before .args in c .cost-of2 .ensures ∙ ap (λ k. costOf (getD (a .t4) (a .h + k) NoList)) (is-size (c .before .before .before))
+module _ (c : tie.After-cost-of2) where
+  abbrev sized : tie.After-size-of
+  sized = c .before .before .before
 
-is-bits : (c : tie.After-cost-of2) → let a = c .before .before .before .before .before .before .args in c .before .cost-of .result - c .cost-of2 .result ≡ bitsAt (a .t4) (a .h)
-unfolding bitsAt
-is-bits c = ap₂ _-_ (c .before .cost-of .ensures) (cost-below c)
+  cost-below : let a = start sized .args in c .cost-of2 .result ≡ costOf (getD (a .t5) (a .h + sizeAt (a .t5) (a .h)) NoList)
+  cost-below = let a = start sized .args in c .cost-of2 .ensures ∙ ap (λ k. costOf (getD (a .t5) (a .h + k) NoList)) (is-size sized)
+
+  is-bits : let a = start sized .args in c .before .cost-of .result - c .cost-of2 .result ≡ bitsAt (a .t5) (a .h)
+  unfolding bitsAt
+  is-bits = ap₂ _-_ (c .before .cost-of .ensures) cost-below
 
 sub-bits : tie.Need-sub-bits
-sub-bits c = rw (cost-below c, c .before .cost-of .ensures) (cost-there (c .before .before .before .before .before .before .pre))
+sub-bits c = rw (c .before .cost-of .ensures, cost-below c) (cost-there (start (sized c) .pre))
 
 mul-incoming : tie.Need-mul-incoming
-mul-incoming c = fits-of-lt (let p = places (c .before .before .before .before .before .before .pre) .0 in omega arith)
+mul-incoming c = fits-of-lt (let p = places (start (sized c) .pre) .0 in omega arith)
 
 shared-slice-read-incoming : tie.Need-shared-slice-read-incoming
-shared-slice-read-incoming c = places (c .before .before .before .before .before .before .before .pre) .1 .1 .0
-
-add-outgoing : tie.Need-add-outgoing
-add-outgoing c = fits-of-lt (let e = is-size (c .before .before .before .before) in let p = places (c .before .before .before .before .before .before .before .pre) .1 .0 in omega arith)
+shared-slice-read-incoming c = places (start (sized (c .before)) .pre) .1 .1 .0
 
 mul-outgoing : tie.Need-mul-outgoing
-mul-outgoing c = fits-of-lt (let e = is-size (c .before .before .before .before) in let p = places (c .before .before .before .before .before .before .before .pre) .1 .0 in omega arith)
+mul-outgoing c = fits-of-lt (let s = sized (c .before) in let e = is-size s in let p = places (start s .pre) .1 .0 in omega arith)
 
 shared-slice-read-outgoing : tie.Need-shared-slice-read-outgoing
-shared-slice-read-outgoing c = rw (is-size (c .before .before .before .before .before)) (places (c .before .before .before .before .before .before .before .before .pre) .1 .1 .1)
+shared-slice-read-outgoing c = let s = sized (c .before .before) in rw (is-size s) (places (start s .pre) .1 .1 .1)
+
+commonest-of-cut-requires : tie.Need-commonest-of-cut-requires
+commonest-of-cut-requires c κs = let s = sized (c .before .before) in uses-inside (start s .pre) _ (let e = is-size s in let m = moves (start s .pre) in omega arith)
 
 width-of-bits-requires : tie.Need-width-of-bits-requires
-width-of-bits-requires c κs = rw (is-bits (c .before .before), is-size (c .before .before .before .before .before)) (bits-ready (c .before .before .before .before .before .before .before .before .pre))
+width-of-bits-requires c κs = let d = c .before .before .before in rw (is-size (sized d), is-bits d) (bits-ready (start (sized d) .pre))
 
 returns : tie.Need-returns
-unfolding chosenCell
+unfolding commonAt chosenCell
 returns c =
-    let s = c .before .before .before .before .before .before .before .before .before in
-    let size = is-size (c .before .before .before .before .before .before) in
-    let bits = is-bits (c .before .before .before) in
-    let row = s .args .counts .now in
-    let h = s .args .h in
+    let d = c .before .before .before .before in
+    let a = start (sized d) .args in
+    let size = is-size (sized d) in
+    let bits = is-bits d in
+    let row = a .counts .now in
+    let common = c .before .commonest-of-cut .ensures ∙ ap (λ k. commonest (inCut (a .use-counts .now) (a .h + k) (getD row (a .h + k) 0))) size in
     λ t. record {
       group = size t;
-      incoming = getD row h 0;
-      outgoing = getD row (h + size t) 0;
-      width = (c .width-of-bits .ensures ∙ ap₂ (λ k b. widthOfBits (getD row h 0) k (getD row (h + k) 0) b) size bits) t;
+      incoming = getD row (a .h) 0;
+      outgoing = getD row (a .h + size t) 0;
+      width = (c .width-of-bits .ensures ∙ ap₂ (λ k b. widthOfBits (getD row (a .h) 0) k (getD row (a .h + k) 0) b) size bits) t;
       bits = bits t;
+      common = common t .class;
+      uses = common t .uses;
     }
 
 pub chosen-cell-spec : {M : Type 1} → statement M
@@ -93,7 +106,7 @@ chosen-cell-spec =
     mul-here
     array-copy-out-here
     size-of-requires
-    add-there
+    add-end
     mul-there
     array-copy-out-there
     cost-of-requires
@@ -101,8 +114,8 @@ chosen-cell-spec =
     sub-bits
     mul-incoming
     shared-slice-read-incoming
-    add-outgoing
     mul-outgoing
     shared-slice-read-outgoing
+    commonest-of-cut-requires
     width-of-bits-requires
     returns)

@@ -15,17 +15,17 @@ use Rattle.cells.proofs.list_cells.Statement.{statement}
 use Rattle.cells.proofs.list_cells.Tie as tie
 
 abbrev Inv-loop : tie.InvT-loop
-Inv-loop n counts choices bits sizes₀ cells₀ count₀ h₀ sizes cells count h = ListedTo n counts choices h count sizes cells
+Inv-loop n counts use-counts choices bits sizes₀ cells₀ count₀ h₀ sizes cells count h = ListedTo n counts use-counts choices h count sizes cells
 
 abbrev μ-loop : tie.MeasureT-loop
-μ-loop n counts choices bits sizes₀ cells₀ count₀ h₀ sizes cells count h = n - h
+μ-loop n counts use-counts choices bits sizes₀ cells₀ count₀ h₀ sizes cells count h = n - h
 
 loop-holds : tie.Need-loop-holds Inv-loop μ-loop
 unfolding padded mostVariables noCell
-loop-holds c = none-listed (c .before .pre)
+loop-holds c = none-listed (c .before .before .pre)
 
 -- In a turn a cell lies ahead.
-ahead : (c : tie.In-loop Inv-loop μ-loop) → CellChosen (c .before .before .before .args .n) (c .before .loop .h) (c .before .before .before .args .counts .now) (c .before .before .before .args .choices)
+ahead : (c : tie.In-loop Inv-loop μ-loop) → let a = c .before .before .before .before .args in CellChosen (a .n) (c .before .loop .h) (a .counts .now) (a .use-counts .now) (a .choices)
 ahead c = c .before .loop .inv .ahead (c .loop-test .taken)
 
 room : (c : tie.In-loop Inv-loop μ-loop) → c .before .loop .count < 12
@@ -47,7 +47,7 @@ array-set-from-cells : tie.Need-array-set-from-cells Inv-loop μ-loop
 array-set-from-cells c = room (c .before)
 
 -- The size of the cell that was found.
-is-size : (c : tie.After-chosen-cell Inv-loop μ-loop) → c .chosen-cell .result .group ≡ sizeAt (c .before .before .before .before .args .choices) (c .before .before .loop .h)
+is-size : (c : tie.After-chosen-cell Inv-loop μ-loop) → c .chosen-cell .result .group ≡ sizeAt (c .before .before .before .before .before .args .choices) (c .before .before .loop .h)
 unfolding chosenCell
 is-size c = ap (λ cell. cell .group) (c .chosen-cell .ensures)
 
@@ -65,14 +65,14 @@ unfolding chosenCell
 loop-again c =
     let i = c .before .before in
     let l = i .before .loop in
-    let a = i .before .before .before .args in
-    subst⁻¹ (λ (cell : Cell). ListedTo (a .n) (a .counts .now) (a .choices) (l .h + cell .group) (l .count + 1) (set (l .sizes) (l .count) (cell .group)) (set (l .cells) (l .count) cell)) (c .before .chosen-cell .ensures)
+    let a = i .before .before .before .before .args in
+    subst⁻¹ (λ (cell : Cell). ListedTo (a .n) (a .counts .now) (a .use-counts .now) (a .choices) (l .h + cell .group) (l .count + 1) (set (l .sizes) (l .count) (cell .group)) (set (l .cells) (l .count) cell)) (c .before .chosen-cell .ensures)
     (one-listed (l .h) (l .count) (l .sizes) (l .cells) (l .inv) (i .loop-test .taken))
 
 returns : tie.Need-returns Inv-loop μ-loop
 returns c =
     let l = c .before .loop in
-    plan-listed (l .h) (l .count) (l .sizes) (l .cells) (l .inv) (c .loop-test .left) (c .before .before .before .args .bits)
+    plan-listed (l .h) (l .count) (l .sizes) (l .cells) (l .inv) (c .loop-test .left) (c .before .before .before .before .args .bits)
 
 pub list-cells-spec : {M : Type 1} → statement M
 list-cells-spec =

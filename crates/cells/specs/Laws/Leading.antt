@@ -13,7 +13,13 @@ use Rattle.numbers.specs.Widths.{railWidth, cellBits}
 use Rattle.numbers.specs.Laws.Padding.{padded-entry}
 use Rattle.numbers.specs.Laws.Lists.{length-range, getD-range, getD-map}
 use Rattle.blocks.specs.Classes.{classCount}
+use Rattle.blocks.specs.Inner.Layout.{cutPlace}
+use Rattle.blocks.specs.Laws.Classes.{class-count-le}
+use Rattle.blocks.specs.Laws.Cuts.{cut-within}
 use Rattle.blocks.specs.Laws.Places.{length-counts, count-at}
+use Rattle.uses.specs.Uses.{commonest, commonestAt}
+use Rattle.uses.specs.Inner.Rows.{allUseRows, inCut}
+use Rattle.uses.specs.Laws.Rows.{length-all-use-rows, use-counts-stand}
 use Rattle.image.specs.Cells.{bitsOf}
 use Rattle.image.specs.Reader.{mostClasses}
 use Rattle.cascade.specs.Cascade.{cellOf}
@@ -23,7 +29,7 @@ use Rattle.cascade.specs.declared.Choice.{Choice}
 use Rattle.cascade.specs.declared.Choice.the-variants.{NoList, Costing}
 use Rattle.cascade.specs.Laws.Cells.{variables-most, class-count-most}
 use Rattle.cascade.specs.Laws.Cheapest.{Leads, choice-leads}
-use Rattle.cells.specs.Inner.Listed.{sizeAt, bitsAt, widthOfBits, BitsReady, chosenCell, CellChosen}
+use Rattle.cells.specs.Inner.Listed.{sizeAt, bitsAt, widthOfBits, BitsReady, commonAt, chosenCell, CellChosen}
 
 -- The choice at a cut stands at its place in the array.
 pub array-at : (n limit : ℕ) (table : List ℤ) (h : ℕ) → h ≤ n → getD (choiceArray n table limit) h NoList ≡ tableChoice n table limit h
@@ -38,7 +44,7 @@ width-back : (incoming group outgoing width : ℕ) → cellBits incoming group o
 unfolding cellBits
 width-back incoming group outgoing width = mul-div-cancel-left (railWidth outgoing + width) (pow-pos (railWidth incoming + group))
 
-module _ {n h : ℕ} {countRow : List ℕ} {choices : List Choice} (r : CellChosen n h countRow choices) where
+module _ {n h : ℕ} {countRow useCountRow : List ℕ} {choices : List Choice} (r : CellChosen n h countRow useCountRow choices) where
   open CellChosen r using (known, cut, cost, size, some)
 
   abbrev pub table : List ℤ
@@ -109,8 +115,22 @@ module _ {n h : ℕ} {countRow : List ℕ} {choices : List Choice} (r : CellChos
   unfolding widthOfBits
   width-is = ap₂ (λ word rail. word - rail) word-bits (ap railWidth leaving) ∙ add-sub-cancel-left (railWidth (classCount n table (h + size))) (cellOf n table h size .width)
 
+  -- The use counts of a cut's classes stand in their row.
+  pub uses-inside : (cut : ℕ) → cut ≤ n → (cut < 64) × (cutPlace cut + getD countRow cut 0 ≤ length useCountRow)
+  uses-inside cut above =
+      let f = few in
+      let l : length useCountRow ≡ cutPlace (suc n) = ap length (known .used) ∙ length-all-use-rows n table in
+      (omega arith, rw (ap (λ row. getD row cut 0) (known .counted) ∙ count-at n table cut above) (let c = class-count-le n table cut above in let w = cut-within n cut above in omega arith))
+
+  common-is : commonAt countRow useCountRow choices h ≡ commonestAt n table (h + size)
+  unfolding commonAt commonestAt
+  common-is =
+      ap₂ (λ row count. commonest (inCut row (h + sizeAt choices h) count)) (known .used) leaving
+      ∙ ap (λ k. commonest (inCut (allUseRows n table) (h + k) (classCount n table (h + size)))) size-is
+      ∙ ap commonest (use-counts-stand n table (h + size) (leads .inside))
+
   -- The cell is that of the table.
-  pub cell-is : chosenCell countRow choices h ≡ planCell (cellOf n table h size)
+  pub cell-is : chosenCell countRow useCountRow choices h ≡ planCell (cellOf n table h size) (commonestAt n table (h + size))
   unfolding chosenCell planCell cellOf cellPrice
   cell-is t = record {
     group = size-is t;
@@ -118,4 +138,6 @@ module _ {n h : ℕ} {countRow : List ℕ} {choices : List Choice} (r : CellChos
     outgoing = leaving t;
     width = width-is t;
     bits = bits-is t;
+    common = common-is t .class;
+    uses = common-is t .uses;
   }

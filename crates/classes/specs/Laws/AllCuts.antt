@@ -18,24 +18,30 @@ use Rattle.blocks.specs.Inner.Layout.{cutNumbers, cutFirsts, allNumbers, allFir
 use Rattle.tries.specs.Tries.{cutTries}
 use Rattle.tries.specs.Inner.Rows.{allTries}
 use Rattle.tries.specs.Laws.Rows.{length-cut-tries}
+use Rattle.uses.specs.Uses.{cutUses}
+use Rattle.uses.specs.Inner.Rows.{cutUseRow, allUses, allUseRows}
+use Rattle.uses.specs.Laws.Rows.{length-cut-uses, length-cut-use-row}
 use Rattle.classes.specs.Inner.Placing.{CutPlaced}
+use Rattle.classes.specs.Inner.Searched.{SearchRoom, AllSearched}
 use Rattle.blocks.specs.Laws.Cuts.{length-cut-numbers, length-cut-firsts, cut-end, cut-within}
 
 -- The rows while the cuts before h are classed.
-pub record CutsSoFar (n : ℕ) (table : List ℤ) (h : ℕ) (classRow firstRow countRow triedRow : List ℕ) : Type 0 where
+pub record CutsSoFar (n : ℕ) (table : List ℤ) (h : ℕ) (classRow firstRow countRow triedRow usesRow useCountRow : List ℕ) : Type 0 where
   pub inside : h ≤ suc n
   pub rows : CutsRoom n table classRow firstRow
   pub countPlaces : length countRow ≡ suc n
-  pub triedPlaces : length triedRow ≡ cutPlace (suc n)
+  pub searches : SearchRoom n triedRow usesRow useCountRow
   pub numbered : take (cutPlace h) classRow ≡ flatMap (cutNumbers n table) (numbersFrom 0 h)
   pub placed : take (cutPlace h) firstRow ≡ flatMap (cutFirsts n table) (numbersFrom 0 h)
   pub counted : take h countRow ≡ map (classCount n table) (numbersFrom 0 h)
   pub tried : take (cutPlace h) triedRow ≡ flatMap (cutTries n table) (numbersFrom 0 h)
+  pub used : take (cutPlace h) usesRow ≡ flatMap (cutUses n table) (numbersFrom 0 h)
+  pub useCounted : take (cutPlace h) useCountRow ≡ flatMap (cutUseRow n table) (numbersFrom 0 h)
 
-pub no-cut : (n : ℕ) (table : List ℤ) (classRow firstRow countRow triedRow : List ℕ) → CutsRoom n table classRow firstRow → length countRow ≡ suc n → length triedRow ≡ cutPlace (suc n) → CutsSoFar n table 0 classRow firstRow countRow triedRow
+pub no-cut : (n : ℕ) (table : List ℤ) (classRow firstRow countRow triedRow usesRow useCountRow : List ℕ) → CutsRoom n table classRow firstRow → length countRow ≡ suc n → SearchRoom n triedRow usesRow useCountRow → CutsSoFar n table 0 classRow firstRow countRow triedRow usesRow useCountRow
 unfolding cutPlace numbersFrom flatMap
-no-cut n table classRow firstRow countRow triedRow rows e t =
-    record { inside = omega arith; rows = rows; countPlaces = e; triedPlaces = t; numbered = refl; placed = refl; counted = refl; tried = refl }
+no-cut n table classRow firstRow countRow triedRow usesRow useCountRow rows e searches =
+    record { inside = omega arith; rows = rows; countPlaces = e; searches = searches; numbered = refl; placed = refl; counted = refl; tried = refl; used = refl; useCounted = refl }
 
 -- A run of lists and one more.
 one-more : (f : ℕ → List ℕ) (h : ℕ) → flatMap f (numbersFrom 0 h) ++ f h ≡ flatMap f (numbersFrom 0 (suc h))
@@ -56,11 +62,12 @@ row-grows n h f row cut l e s =
 row-stays : (n h : ℕ) (new row : List ℕ) → h ≤ n → length new ≡ 2 ^ h → length row ≡ cutPlace (suc n) → length (overwritten row (cutPlace h) new) ≡ cutPlace (suc n)
 row-stays n h new row cut l e = length-overwritten row (cutPlace h) new (let w = cut-within n h cut in omega arith) ∙ e
 
-module _ (n : ℕ) (table : List ℤ) (h : ℕ) (classRow firstRow countRow triedRow : List ℕ) (s : CutsSoFar n table h classRow firstRow countRow triedRow) (cut : h ≤ n) where
+module _ (n : ℕ) (table : List ℤ) (h : ℕ) (classRow firstRow countRow triedRow usesRow useCountRow : List ℕ) (s : CutsSoFar n table h classRow firstRow countRow triedRow usesRow useCountRow) (cut : h ≤ n) where
   -- One cut more.
-  pub cuts-next : (count : ℕ) (classRow′ firstRow′ triedRow′ : List ℕ) → CutPlaced n table h classRow firstRow triedRow count classRow′ firstRow′ triedRow′ → CutsSoFar n table (h + 1) classRow′ firstRow′ (set countRow h count) triedRow′
-  cuts-next count classRow′ firstRow′ triedRow′ p =
-      subst (λ k. CutsSoFar n table k classRow′ firstRow′ (set countRow h count) triedRow′) (sym (add-one h))
+  pub cuts-next : (count : ℕ) (classRow′ firstRow′ triedRow′ usesRow′ useCountRow′ : List ℕ) → CutPlaced n table h classRow firstRow triedRow usesRow useCountRow count classRow′ firstRow′ triedRow′ usesRow′ useCountRow′
+      → CutsSoFar n table (h + 1) classRow′ firstRow′ (set countRow h count) triedRow′ usesRow′ useCountRow′
+  cuts-next count classRow′ firstRow′ triedRow′ usesRow′ useCountRow′ p =
+      subst (λ k. CutsSoFar n table k classRow′ firstRow′ (set countRow h count) triedRow′ usesRow′ useCountRow′) (sym (add-one h))
       (record {
         inside = omega arith;
         rows = record {
@@ -70,7 +77,11 @@ module _ (n : ℕ) (table : List ℤ) (h : ℕ) (classRow firstRow countRow trie
           firstPlaces = ap length (p .placed) ∙ row-stays n h (cutFirsts n table h) firstRow cut (length-cut-firsts n h cut table) (s .rows .firstPlaces);
         };
         countPlaces = length-set countRow h count ∙ s .countPlaces;
-        triedPlaces = ap length (p .tried) ∙ row-stays n h (cutTries n table h) triedRow cut (length-cut-tries n h cut table) (s .triedPlaces);
+        searches = record {
+          triedPlaces = ap length (p .tried) ∙ row-stays n h (cutTries n table h) triedRow cut (length-cut-tries n h cut table) (s .searches .triedPlaces);
+          usesPlaces = ap length (p .used) ∙ row-stays n h (cutUses n table h) usesRow cut (length-cut-uses n table h cut) (s .searches .usesPlaces);
+          useCountPlaces = ap length (p .useCounted) ∙ row-stays n h (cutUseRow n table h) useCountRow cut (length-cut-use-row n table h cut) (s .searches .useCountPlaces);
+        };
         numbered = ap (take (cutPlace (suc h))) (p .numbered) ∙ row-grows n h (cutNumbers n table) classRow cut (length-cut-numbers n h cut table) (s .rows .classPlaces) (s .numbered);
         placed = ap (take (cutPlace (suc h))) (p .placed) ∙ row-grows n h (cutFirsts n table) firstRow cut (length-cut-firsts n h cut table) (s .rows .firstPlaces) (s .placed);
         counted =
@@ -78,17 +89,27 @@ module _ (n : ℕ) (table : List ℤ) (h : ℕ) (classRow firstRow countRow trie
             ∙ ap₂ (λ l k. l ++ k ∷ []) (s .counted) (p .counted)
             ∙ sym (map-append (classCount n table) (numbersFrom 0 h) (h ∷ []))
             ∙ ap (map (classCount n table)) (ap (λ k. numbersFrom 0 h ++ k ∷ []) (sym (zero-add h)) ∙ sym (range-suc 0 h));
-        tried = ap (take (cutPlace (suc h))) (p .tried) ∙ row-grows n h (cutTries n table) triedRow cut (length-cut-tries n h cut table) (s .triedPlaces) (s .tried);
+        tried = ap (take (cutPlace (suc h))) (p .tried) ∙ row-grows n h (cutTries n table) triedRow cut (length-cut-tries n h cut table) (s .searches .triedPlaces) (s .tried);
+        used = ap (take (cutPlace (suc h))) (p .used) ∙ row-grows n h (cutUses n table) usesRow cut (length-cut-uses n table h cut) (s .searches .usesPlaces) (s .used);
+        useCounted = ap (take (cutPlace (suc h))) (p .useCounted) ∙ row-grows n h (cutUseRow n table) useCountRow cut (length-cut-use-row n table h cut) (s .searches .useCountPlaces) (s .useCounted);
       })
 
 -- When all cuts are classed, the rows are whole.
-pub cuts-done : (n : ℕ) (table : List ℤ) (classRow firstRow countRow triedRow : List ℕ) → CutsSoFar n table (suc n) classRow firstRow countRow triedRow → AllClassed n table classRow firstRow countRow × (triedRow ≡ allTries n table)
-unfolding allNumbers allFirsts allCounts allTries
-cuts-done n table classRow firstRow countRow triedRow s = (
+whole : (row new : List ℕ) (places : ℕ) → length row ≡ places → take places row ≡ new → row ≡ new
+whole row new places e t = sym (ap (λ k. take k row) (sym e) ∙ take-length row) ∙ t
+
+pub cuts-done : (n : ℕ) (table : List ℤ) (classRow firstRow countRow triedRow usesRow useCountRow : List ℕ) → CutsSoFar n table (suc n) classRow firstRow countRow triedRow usesRow useCountRow
+    → AllClassed n table classRow firstRow countRow × AllSearched n table triedRow usesRow useCountRow
+unfolding allNumbers allFirsts allCounts allTries allUses allUseRows
+cuts-done n table classRow firstRow countRow triedRow usesRow useCountRow s = (
   record {
-    numbered = sym (ap (λ k. take k classRow) (sym (s .rows .classPlaces)) ∙ take-length classRow) ∙ s .numbered;
-    placed = sym (ap (λ k. take k firstRow) (sym (s .rows .firstPlaces)) ∙ take-length firstRow) ∙ s .placed;
-    counted = sym (ap (λ k. take k countRow) (sym (s .countPlaces)) ∙ take-length countRow) ∙ s .counted;
+    numbered = whole classRow _ _ (s .rows .classPlaces) (s .numbered);
+    placed = whole firstRow _ _ (s .rows .firstPlaces) (s .placed);
+    counted = whole countRow _ _ (s .countPlaces) (s .counted);
   },
-  sym (ap (λ k. take k triedRow) (sym (s .triedPlaces)) ∙ take-length triedRow) ∙ s .tried,
+  record {
+    tried = whole triedRow _ _ (s .searches .triedPlaces) (s .tried);
+    used = whole usesRow _ _ (s .searches .usesPlaces) (s .used);
+    useCounted = whole useCountRow _ _ (s .searches .useCountPlaces) (s .useCounted);
+  },
 )

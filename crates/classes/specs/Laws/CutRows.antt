@@ -19,8 +19,12 @@ use Rattle.blocks.specs.Inner.Layout.{part, numbersOf, firstsOf, cutNumbers, cu
 use Rattle.blocks.specs.Laws.Cuts.{length-cut-numbers, length-cut-firsts, cut-within, cut-whole}
 use Rattle.tries.specs.Tries.{triesOf, cutTries}
 use Rattle.tries.specs.Laws.Rows.{length-cut-tries}
+use Rattle.uses.specs.Uses.{usesOf, classesAt, cutUses}
+use Rattle.uses.specs.Inner.Rows.{useRow, cutUseRow}
+use Rattle.uses.specs.Laws.Rows.{length-cut-uses, length-cut-use-row, classes-are}
 use Rattle.cuts.specs.Inner.Classing.{cutRows, CutRoom, CutClassed}
 use Rattle.classes.specs.Inner.Placing.{CutPlaced}
+use Rattle.classes.specs.Inner.Searched.{SearchRoom}
 use Rattle.search.specs.Inner.Searching.{partDifferences}
 
 module _ (n h : ℕ) (cut : h ≤ n) where
@@ -32,16 +36,16 @@ module _ (n h : ℕ) (cut : h ≤ n) where
       ∙ sym (map-map (block table (n - h)) differences (numbersFrom 0 (2 ^ (n - (n - h)))))
 
 -- Cut h of a table with rows for all cuts: its block count and its block size.
-pub record CutAt (n h count size : ℕ) (table : List ℤ) (classRow firstRow triedRow : List ℕ) : Type 0 where
+pub record CutAt (n h count size : ℕ) (table : List ℤ) (classRow firstRow triedRow usesRow useCountRow : List ℕ) : Type 0 where
   pub rows : CutsRoom n table classRow firstRow
-  pub triedPlaces : length triedRow ≡ cutPlace (suc n)
+  pub searches : SearchRoom n triedRow usesRow useCountRow
   pub cut : h ≤ n
   pub is-count : count ≡ 2 ^ h
   pub is-size : size ≡ 2 ^ (n - h)
 
 -- The parts of the rows that belong to the cut.
-module _ {n h count size : ℕ} {table : List ℤ} {classRow firstRow triedRow : List ℕ} (k : CutAt n h count size table classRow firstRow triedRow) where
-  open CutAt k using (rows, triedPlaces, cut, is-count, is-size)
+module _ {n h count size : ℕ} {table : List ℤ} {classRow firstRow triedRow usesRow useCountRow : List ℕ} (k : CutAt n h count size table classRow firstRow triedRow usesRow useCountRow) where
+  open CutAt k using (rows, searches, cut, is-count, is-size)
 
   -- The count is small.
   pub count-small : (1 ≤ count) × (count ≤ 4096)
@@ -59,7 +63,13 @@ module _ {n h count size : ℕ} {table : List ℤ} {classRow firstRow triedRow :
   within-firsts = rw (rows .firstPlaces) rows-reach
 
   pub within-tried : count - 1 + count ≤ length triedRow
-  within-tried = rw triedPlaces rows-reach
+  within-tried = rw (searches .triedPlaces) rows-reach
+
+  pub within-uses : count - 1 + count ≤ length usesRow
+  within-uses = rw (searches .usesPlaces) rows-reach
+
+  pub within-use-counts : count - 1 + count ≤ length useCountRow
+  within-use-counts = rw (searches .useCountPlaces) rows-reach
 
   abbrev lent : List ℕ → List ℕ
   lent row = take (count - 1 + count - (count - 1)) (drop (count - 1) row)
@@ -72,22 +82,32 @@ module _ {n h count size : ℕ} {table : List ℤ} {classRow firstRow triedRow :
   halved zero other = absurd (other refl)
   halved (suc k) other = let e : 2 ^ suc k ≡ 2 * (2 ^ suc k / 2) = omega (arith, two-pow-succ k) in e
 
-  pub cut-room : CutRoom table size (lent classRow) (lent firstRow) (lent triedRow)
+  pub cut-room : CutRoom table size (cutRows 0 (lent classRow) (lent firstRow) (lent triedRow) (lent usesRow) (lent useCountRow))
   cut-room = record {
     whole = rows .whole ∙ sym (ap₂ _*_ (lent-length classRow within-classes ∙ is-count) is-size ∙ cut-whole n h cut);
-    firstsAlike = lent-length firstRow within-firsts ∙ sym (lent-length classRow within-classes);
-    triedAlike = lent-length triedRow within-tried ∙ sym (lent-length classRow within-classes);
+    alike = record {
+      firstsAlike = lent-length firstRow within-firsts ∙ sym (lent-length classRow within-classes);
+      triedAlike = lent-length triedRow within-tried ∙ sym (lent-length classRow within-classes);
+      usesAlike = lent-length usesRow within-uses ∙ sym (lent-length classRow within-classes);
+      useCountsAlike = lent-length useCountRow within-use-counts ∙ sym (lent-length classRow within-classes);
+    };
     halved = rw (lent-length classRow within-classes, is-count) (halved h);
   }
 
-  pub cut-placed : (found : ℕ) (numbered placed tries : List ℕ) → CutClassed table size (length (lent classRow)) (cutRows found numbered placed tries)
-      → CutPlaced n table h classRow firstRow triedRow found (putMid (count - 1) (count - 1 + count - (count - 1)) classRow numbered) (putMid (count - 1) (count - 1 + count - (count - 1)) firstRow placed) (putMid (count - 1) (count - 1 + count - (count - 1)) triedRow tries)
-  unfolding cutPlace cutNumbers cutFirsts cutTries classCount classes
-  cut-placed found numbered placed tries c = record {
+  -- A cut's row, back among those of all cuts.
+  abbrev back : List ℕ → List ℕ → List ℕ
+  back row filled = putMid (count - 1) (count - 1 + count - (count - 1)) row filled
+
+  pub cut-placed : (found : ℕ) (numbered placed tries uses useCounts : List ℕ) → CutClassed table size (length (lent classRow)) (cutRows found numbered placed tries uses useCounts)
+      → CutPlaced n table h classRow firstRow triedRow usesRow useCountRow found (back classRow numbered) (back firstRow placed) (back triedRow tries) (back usesRow uses) (back useCountRow useCounts)
+  unfolding cutPlace cutNumbers cutFirsts cutTries cutUses cutUseRow classCount classes
+  cut-placed found numbered placed tries uses useCounts c = record {
     counted = c .counted ∙ ap (λ l. length (distinct l)) same-lists;
     numbered = put-back classRow numbered (cutNumbers n table h) (length-cut-numbers n h cut table) (c .numbered ∙ ap numbersOf same-lists);
     placed = put-back firstRow placed (cutFirsts n table h) (length-cut-firsts n h cut table) (c .placed ∙ ap₂ firstsOf blocks-are same-lists);
     tried = put-back triedRow tries (cutTries n table h) (length-cut-tries n h cut table) (c .tried ∙ ap triesOf same-lists);
+    used = put-back usesRow uses (cutUses n table h) (length-cut-uses n table h cut) (c .used ∙ ap usesOf same-classes);
+    useCounted = put-back useCountRow useCounts (cutUseRow n table h) (length-cut-use-row n table h cut) (c .useCounted ∙ ap useRow same-classes);
   }
     where
       many : ℕ
@@ -101,6 +121,9 @@ module _ {n h count size : ℕ} {table : List ℤ} {classRow firstRow triedRow :
 
       same-lists : partDifferences table size (numbersFrom 0 (length (lent classRow))) ≡ map differences (blocks n table (n - h))
       same-lists = ap₂ (λ s b. partDifferences table s (numbersFrom 0 b)) is-size blocks-are ∙ cut-lists-are n h cut table
+
+      same-classes : numbersOf (partDifferences table size (numbersFrom 0 (length (lent classRow)))) ≡ classesAt n table h
+      same-classes = ap numbersOf same-lists ∙ sym (classes-are n table h)
 
       -- The cut's own row, back in the row of all cuts.
       put-back : (row filled new : List ℕ) → length new ≡ 2 ^ h → filled ≡ new → putMid (count - 1) many row filled ≡ overwritten row (2 ^ h - 1) new

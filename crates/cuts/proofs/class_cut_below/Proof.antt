@@ -1,7 +1,7 @@
 -- `cuts::class_cut_below` meets its contract. The loop's invariant: the rows hold what is known after the halves of j blocks of the cut
 -- above. Assumes nothing.
 use Prim.Native.Nat.{_+_, _-_, _*_, _/_, _≤_, _<_}
-use mathlib.Core.Path.{_≡_, sym, _∙_, subst}
+use mathlib.Core.Path.{_≡_, refl, sym, _∙_, subst}
 use native.Mathlib.Omega.{arith}
 use lib.ListN.{length}
 use borrow.Author.Needs.{needs}
@@ -12,18 +12,18 @@ use Rattle.cuts.proofs.class_cut_below.Statement.{statement}
 use Rattle.cuts.proofs.class_cut_below.Tie as tie
 
 abbrev Inv-loop : tie.InvT-loop
-Inv-loop table size classes₀ firsts₀ tried₀ count₀ j₀ classes firsts tried count j = CutSoFar table size (length classes₀) (2 * j) (cutRows count classes firsts tried)
+Inv-loop table size classes₀ firsts₀ tried₀ uses₀ use-counts₀ count₀ j₀ classes firsts tried uses use-counts count j = CutSoFar table size (length classes₀) (2 * j) (cutRows count classes firsts tried uses use-counts)
 
 abbrev μ-loop : tie.MeasureT-loop
-μ-loop table size classes₀ firsts₀ tried₀ count₀ j₀ classes firsts tried count j = length classes₀ / 2 - j
+μ-loop table size classes₀ firsts₀ tried₀ uses₀ use-counts₀ count₀ j₀ classes firsts tried uses use-counts count j = length classes₀ / 2 - j
 
 loop-holds : tie.Need-loop-holds Inv-loop μ-loop
-loop-holds c = let s = c .before .before .before in cut-start (s .args .table .now) (s .args .size) (s .args .classes .now) (s .args .firsts .now) (s .args .tried .now) (s .pre .0)
+loop-holds c = let s = c .before .before .before .before .before in cut-start (s .args .table .now) (s .args .size) (cutRows 0 (s .args .classes .now) (s .args .firsts .now) (s .args .tried .now) (s .args .uses .now) (s .args .use-counts .now)) refl (s .pre .0)
 
 -- In a turn: both halves are blocks of the cut, and the block lies within the table.
 module _ (i : tie.In-loop Inv-loop μ-loop) where
   abbrev start : tie.Start Inv-loop μ-loop
-  start = i .before .before .before .before .before
+  start = i .before .before .before .before .before .before .before
 
   abbrev here : tie.At-loop Inv-loop μ-loop
   here = i .before
@@ -62,35 +62,41 @@ part-class-halves-end : tie.Need-part-class-halves-end Inv-loop μ-loop
 part-class-halves-end c = room c
 
 class-halves-requires : tie.Need-class-halves-requires Inv-loop μ-loop
-class-halves-requires c κs = let i = c .before .before .before .before in cut-halves-room (here i .loop .j) (here i .loop .inv) (start i .pre .0 .whole) (below i)
+class-halves-requires c κs = let i = c .before .before .before .before .before .before in cut-halves-room (here i .loop .j) (here i .loop .inv) (start i .pre .0 .whole) (below i)
 
 add-j : tie.Need-add-j Inv-loop μ-loop
-add-j c = let l = below (c .before .before .before .before .before .before .before .before .before .before .before) in search needs
+add-j c = let l = below (c .before .before .before .before .before .before .before .before .before .before .before .before .before .before .before .before .before) in search needs
 
 loop-less : tie.Need-loop-less Inv-loop μ-loop
-loop-less c = let l = below-half (c .before .before .before .before .before .before .before .before .before .before .before) in omega arith
+loop-less c = let l = below-half (c .before .before .before .before .before .before .before .before .before .before .before .before .before .before .before .before .before) in omega arith
 
 loop-again : tie.Need-loop-again Inv-loop μ-loop
 loop-again c =
-    let i = c .before .before .before .before .before .before .before .before .before .before .before in
-    let k = c .before .before .before .before .before .before .class-halves in
-    halves-next (here i .loop .j) (here i .loop .inv) (start i .pre .0 .whole) (below i) (cutRows (k .result) (k .last .1 .1 .1 .1 .1 .0) (k .last .1 .1 .1 .1 .1 .1 .0) (k .last .1 .1 .1 .1 .1 .1 .1 .0)) (k .ensures)
+    let i = c .before .before .before .before .before .before .before .before .before .before .before .before .before .before .before .before .before in
+    let k = c .before .before .before .before .before .before .before .before .before .before .class-halves in
+    halves-next (here i .loop .j) (here i .loop .inv) (start i .pre .0 .whole) (below i) (cutRows (k .result) (k .last .1 .1 .1 .1 .1 .0) (k .last .1 .1 .1 .1 .1 .1 .0) (k .last .1 .1 .1 .1 .1 .1 .1 .0) (k .last .1 .1 .1 .1 .1 .1 .1 .1 .0) (k .last .1 .1 .1 .1 .1 .1 .1 .1 .1 .0)) (k .ensures)
 
 same-length : tie.Need-same-length Inv-loop μ-loop
 same-length c = c .before .loop .inv .classPlaces
 
 same-length-2 : tie.Need-same-length-2 Inv-loop μ-loop
-same-length-2 c = c .before .loop .inv .firstPlaces ∙ sym (c .before .before .before .before .before .pre .0 .firstsAlike)
+same-length-2 c = c .before .loop .inv .firstPlaces ∙ sym (c .before .before .before .before .before .before .before .pre .0 .alike .firstsAlike)
 
 same-length-3 : tie.Need-same-length-3 Inv-loop μ-loop
-same-length-3 c = c .before .loop .inv .triedPlaces ∙ sym (c .before .before .before .before .before .pre .0 .triedAlike)
+same-length-3 c = c .before .loop .inv .triedPlaces ∙ sym (c .before .before .before .before .before .before .before .pre .0 .alike .triedAlike)
+
+same-length-4 : tie.Need-same-length-4 Inv-loop μ-loop
+same-length-4 c = c .before .loop .inv .usesPlaces ∙ sym (c .before .before .before .before .before .before .before .pre .0 .alike .usesAlike)
+
+same-length-5 : tie.Need-same-length-5 Inv-loop μ-loop
+same-length-5 c = c .before .loop .inv .useCountPlaces ∙ sym (c .before .before .before .before .before .before .before .pre .0 .alike .useCountsAlike)
 
 returns : tie.Need-returns Inv-loop μ-loop
 returns c =
-    let s = c .before .before .before .before .before in
+    let s = c .before .before .before .before .before .before .before in
     let v = c .before .loop in
-    cut-done (s .args .table .now) (s .args .size) (length (s .args .classes .now)) (cutRows (v .count) (v .classes) (v .firsts) (v .tried))
-    (subst (λ k. CutSoFar (s .args .table .now) (s .args .size) (length (s .args .classes .now)) k (cutRows (v .count) (v .classes) (v .firsts) (v .tried)))
+    cut-done (s .args .table .now) (s .args .size) (length (s .args .classes .now)) (cutRows (v .count) (v .classes) (v .firsts) (v .tried) (v .uses) (v .use-counts))
+    (subst (λ k. CutSoFar (s .args .table .now) (s .args .size) (length (s .args .classes .now)) k (cutRows (v .count) (v .classes) (v .firsts) (v .tried) (v .uses) (v .use-counts)))
     (let t = c .loop-test .left in
     let l = v .inv .inside in
     let r = v .inv .classPlaces in
@@ -121,4 +127,6 @@ class-cut-below-spec =
     same-length
     same-length-2
     same-length-3
+    same-length-4
+    same-length-5
     returns)

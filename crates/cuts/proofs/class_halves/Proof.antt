@@ -11,7 +11,7 @@ use Rattle.cuts.proofs.class_halves.Statement.{statement}
 use Rattle.cuts.proofs.class_halves.Tie as tie
 
 slice-aggregate-lower : tie.Need-slice-aggregate-lower
-slice-aggregate-lower c = let l = c .before .before .before .before .args .above .now in sym (length-take-le (length l / 2) l (omega arith))
+slice-aggregate-lower c = let l = c .before .before .before .before .before .before .args .above .now in sym (length-take-le (length l / 2) l (omega arith))
 
 mul-upper : tie.Need-mul-upper
 mul-upper c = search needs
@@ -30,8 +30,8 @@ mul-class-block c = search needs
 
 class-block-requires : tie.Need-class-block-requires
 class-block-requires c κs =
-    let s = c .before .before .before .before .before .before .before .before in
-    lower-room (s .args .table .now) (s .args .size) (s .args .j) (s .args .above .now) (cutRows (s .args .count) (s .args .classes .now) (s .args .firsts .now) (s .args .tried .now)) (s .pre)
+    let s = c .before .before .before .before .before .before .before .before .before .before .before .before in
+    lower-room (s .args .table .now) (s .args .size) (s .args .j) (s .args .above .now) (cutRows (s .args .count) (s .args .classes .now) (s .args .firsts .now) (s .args .tried .now) (s .args .uses .now) (s .args .use-counts .now)) (s .pre)
 
 mul-class-block-2 : tie.Need-mul-class-block-2
 mul-class-block-2 c = search needs
@@ -41,10 +41,10 @@ add-class-block c = search needs
 
 class-block-requires-2 : tie.Need-class-block-requires-2
 class-block-requires-2 c κs =
-    let k = c .before .before .before .before .before .before .before .before .before in
-    let s = k .before .before .before .before .before .before .before .before .before in
-    upper-room (s .args .table .now) (s .args .size) (s .args .j) (s .args .above .now) (cutRows (s .args .count) (s .args .classes .now) (s .args .firsts .now) (s .args .tried .now)) (s .pre)
-    (cutRows (k .class-block .result) (k .class-block .last .1 .1 .1 .1 .1 .0) (k .class-block .last .1 .1 .1 .1 .1 .1 .0) (k .class-block .last .1 .1 .1 .1 .1 .1 .1 .0)) (k .class-block .ensures)
+    let k = c .before .before .before .before .before .before .before .before .before .before .before .before .before .before .before in
+    let s = k .before .before .before .before .before .before .before .before .before .before .before .before .before in
+    upper-room (s .args .table .now) (s .args .size) (s .args .j) (s .args .above .now) (cutRows (s .args .count) (s .args .classes .now) (s .args .firsts .now) (s .args .tried .now) (s .args .uses .now) (s .args .use-counts .now)) (s .pre)
+    (cutRows (k .class-block .result) (k .class-block .last .1 .1 .1 .1 .1 .0) (k .class-block .last .1 .1 .1 .1 .1 .1 .0) (k .class-block .last .1 .1 .1 .1 .1 .1 .1 .0) (k .class-block .last .1 .1 .1 .1 .1 .1 .1 .1 .0) (k .class-block .last .1 .1 .1 .1 .1 .1 .1 .1 .1 .0)) (k .class-block .ensures)
 
 same-length : tie.Need-same-length
 same-length c = search needs
@@ -55,12 +55,18 @@ same-length-2 c = search needs
 same-length-3 : tie.Need-same-length-3
 same-length-3 c = search needs
 
+same-length-4 : tie.Need-same-length-4
+same-length-4 c = search needs
+
+same-length-5 : tie.Need-same-length-5
+same-length-5 c = search needs
+
 returns : tie.Need-returns
 unfolding halvesClassed
 returns c =
-    let second = c .before .before .before .before .before .before in
-    let first = second .before .before .before .before .before .before .before .before .before .before in
-    let a = first .before .before .before .before .before .before .before .before .before .args in
+    let second = c .before .before .before .before .before .before .before .before .before .before in
+    let first = second .before .before .before .before .before .before .before .before .before .before .before .before .before .before .before .before in
+    let a = first .before .before .before .before .before .before .before .before .before .before .before .before .before .args in
     let l = a .above .now in
     second .class-block2 .ensures
     ∙ ap₂ (blockClassed (a .table .now) (a .size) (2 * a .j + 1)) (take-all (length l - length l / 2) (drop (length l / 2) l) (rw length-drop (omega arith))) (first .class-block .ensures)
@@ -82,4 +88,6 @@ class-halves-spec =
     same-length
     same-length-2
     same-length-3
+    same-length-4
+    same-length-5
     returns)

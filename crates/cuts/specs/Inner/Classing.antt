@@ -11,6 +11,8 @@ use Rattle.blocks.specs.Blocks.{differences}
 use Rattle.blocks.specs.Classes.{numberIn, distinct}
 use Rattle.blocks.specs.Inner.Layout.{part, numbersOf, firstsOf}
 use Rattle.tries.specs.Tries.{triedAt, triesOf}
+use Rattle.uses.specs.Uses.{useCount, usesAt, usesOf}
+use Rattle.uses.specs.Inner.Rows.{useRow}
 use Rattle.search.specs.declared.Found.{Found}
 use Rattle.search.specs.Inner.Searching.{partDifferences, KnownClasses, foundAmong}
 
@@ -22,25 +24,33 @@ countNoted count class = cond (eqb class count) (count + 1) count
 unfoldable pub firstsNoted : List ℕ → ℕ → ℕ → ℕ → List ℕ
 firstsNoted firstRow count j class = cond (eqb class count) (set (set firstRow j 0) count j) (set firstRow j 0)
 
+-- The row of use counts with a place for block j, and its class's uses in it.
+unfoldable pub usesNoted : List ℕ → ℕ → ℕ → ℕ → List ℕ
+usesNoted useCountRow j class uses = set (set useCountRow j 0) class uses
+
 -- The latest class at block j, that of the block just before; 0 at the first block, where no class is known.
 unfoldable pub latestClass : List ℕ → ℕ → ℕ
 latestClass classRow zero = 0
 latestClass classRow (suc before) = getD classRow before 0
 
--- The rows of a cut on the way: how many classes are known, each block's class, each class's first block, and how many classes were
--- tried for each block.
+-- The rows of a cut on the way: how many classes are known, each block's class, each class's first block, how many classes were tried
+-- for each block, how many blocks up to and including it have its class, and how many have each class so far.
 pub record CutRows : Type 0 where
   pub known : ℕ
   pub classRow : List ℕ
   pub firstRow : List ℕ
   pub triedRow : List ℕ
+  pub usesRow : List ℕ
+  pub useCountRow : List ℕ
 
-abbrev pub cutRows : ℕ → List ℕ → List ℕ → List ℕ → CutRows
-cutRows count classRow firstRow triedRow = record { known = count; classRow = classRow; firstRow = firstRow; triedRow = triedRow }
+abbrev pub cutRows : ℕ → List ℕ → List ℕ → List ℕ → List ℕ → List ℕ → CutRows
+cutRows count classRow firstRow triedRow usesRow useCountRow =
+    record { known = count; classRow = classRow; firstRow = firstRow; triedRow = triedRow; usesRow = usesRow; useCountRow = useCountRow }
 
 -- What the search answers for block j, given by its values, among the known classes.
 unfoldable pub foundKnown : List ℤ → ℕ → ℕ → List ℤ → CutRows → Found
-foundKnown table size j values rows = foundAmong (partDifferences table size (take (rows .known) (rows .firstRow))) (latestClass (rows .classRow) j) (differences values)
+foundKnown table size j values rows =
+    foundAmong (partDifferences table size (take (rows .known) (rows .firstRow))) (take (rows .known) (rows .useCountRow)) (latestClass (rows .classRow) j) (differences values)
 
 -- The rows with a place for block j of the cut, given by its values.
 unfoldable pub blockClassed : List ℤ → ℕ → ℕ → List ℤ → CutRows → CutRows
@@ -49,6 +59,8 @@ blockClassed table size j values rows = record {
   classRow = set (rows .classRow) j (foundKnown table size j values rows .class);
   firstRow = firstsNoted (rows .firstRow) (rows .known) j (foundKnown table size j values rows .class);
   triedRow = set (rows .triedRow) j (foundKnown table size j values rows .tried);
+  usesRow = set (rows .usesRow) j (foundKnown table size j values rows .uses);
+  useCountRow = usesNoted (rows .useCountRow) j (foundKnown table size j values rows .class) (foundKnown table size j values rows .uses);
 }
 
 -- The rows with places for both halves of block j of the cut above, given by its values: the lower half, then the upper.
@@ -73,16 +85,27 @@ pub record CutSoFar (table : List ℤ) (size count j : ℕ) (rows : CutRows) : T
   pub classPlaces : length (rows .classRow) ≡ count
   pub firstPlaces : length (rows .firstRow) ≡ count
   pub triedPlaces : length (rows .triedRow) ≡ count
+  pub usesPlaces : length (rows .usesRow) ≡ count
+  pub useCountPlaces : length (rows .useCountRow) ≡ count
   pub classed : Classed (cutLists table size count) j (rows .known) (rows .classRow) (rows .firstRow)
   pub tried : take j (rows .triedRow) ≡ map (triedAt (cutLists table size count)) (numbersFrom 0 j)
+  pub used : take j (rows .usesRow) ≡ map (usesAt (numbersOf (cutLists table size count))) (numbersFrom 0 j)
+  pub useCounted : (class : ℕ) → class < j → getD (rows .useCountRow) class 0 ≡ useCount (take j (numbersOf (cutLists table size count))) class
+
+-- All rows have as many places as that of the classes.
+pub record RowsAlike (rows : CutRows) : Type 0 where
+  pub firstsAlike : length (rows .firstRow) ≡ length (rows .classRow)
+  pub triedAlike : length (rows .triedRow) ≡ length (rows .classRow)
+  pub usesAlike : length (rows .usesRow) ≡ length (rows .classRow)
+  pub useCountsAlike : length (rows .useCountRow) ≡ length (rows .classRow)
 
 -- The known classes are ready for the search, and block j has its place in the rows.
 pub record BlockRoom (table : List ℤ) (size j : ℕ) (rows : CutRows) : Type 0 where
   pub known : KnownClasses table size (take (rows .known) (rows .firstRow)) (latestClass (rows .classRow) j)
   pub few : rows .known ≤ j
+  pub usesFew : (class : ℕ) → class < rows .known → getD (rows .useCountRow) class 0 ≤ j
   pub inside : j < length (rows .classRow)
-  pub firstsAlike : length (rows .firstRow) ≡ length (rows .classRow)
-  pub triedAlike : length (rows .triedRow) ≡ length (rows .classRow)
+  pub alike : RowsAlike rows
 
 -- The blocks before the halves of block j of the cut above are classed, and both halves have their places; the lower is the next block.
 pub record HalvesRoom (table : List ℤ) (size j : ℕ) (above : List ℤ) (rows : CutRows) : Type 0 where
@@ -92,16 +115,17 @@ pub record HalvesRoom (table : List ℤ) (size j : ℕ) (above : List ℤ) (rows
   pub lower : take (length above / 2) above ≡ part table size (2 * j)
 
 -- A cut of a table: rows of one place for each of its blocks, which are one, or the halves of other blocks.
-pub record CutRoom (table : List ℤ) (size : ℕ) (classRow firstRow triedRow : List ℕ) : Type 0 where
-  pub whole : length table ≡ length classRow * size
-  pub firstsAlike : length firstRow ≡ length classRow
-  pub triedAlike : length triedRow ≡ length classRow
-  pub halved : (length classRow ≡ 1 → ⊥) → length classRow ≡ 2 * (length classRow / 2)
+pub record CutRoom (table : List ℤ) (size : ℕ) (rows : CutRows) : Type 0 where
+  pub whole : length table ≡ length (rows .classRow) * size
+  pub alike : RowsAlike rows
+  pub halved : (length (rows .classRow) ≡ 1 → ⊥) → length (rows .classRow) ≡ 2 * (length (rows .classRow) / 2)
 
--- What the classing of a cut with so many blocks leaves: the count, the blocks' classes, the classes' first blocks, and the numbers
--- tried.
+-- What the classing of a cut with so many blocks leaves: the count, the blocks' classes, the classes' first blocks, the numbers tried,
+-- the uses so far, and the use counts.
 pub record CutClassed (table : List ℤ) (size count : ℕ) (rows : CutRows) : Type 0 where
   pub counted : rows .known ≡ length (distinct (cutLists table size count))
   pub numbered : rows .classRow ≡ numbersOf (cutLists table size count)
   pub placed : rows .firstRow ≡ firstsOf count (cutLists table size count)
   pub tried : rows .triedRow ≡ triesOf (cutLists table size count)
+  pub used : rows .usesRow ≡ usesOf (numbersOf (cutLists table size count))
+  pub useCounted : rows .useCountRow ≡ useRow (numbersOf (cutLists table size count))

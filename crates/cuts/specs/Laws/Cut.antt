@@ -1,5 +1,5 @@
 -- Classing the blocks of a cut: what the rows hold on the way, and that they are whole at the end.
-use Prim.Native.Nat.{ℕ, _+_, _*_, _≤_, _<_}
+use Prim.Native.Nat.{ℕ, _+_, _*_, _^_, _≤_, _<_}
 use mathlib.Core.Path.{_≡_, refl, sym, _∙_, ap, ap₂, subst}
 use mathlib.Core.List.{List, [], map}
 use native.Mathlib.Nat.{zero-add, one-mul, zero-mul, suc-mul, mul-le-mul-right}
@@ -14,14 +14,17 @@ use Rattle.numbers.specs.Lists.{numbersFrom}
 use Rattle.numbers.specs.Laws.Lists.{length-range, getD-range, getD-map}
 use Rattle.blocks.specs.Blocks.{differences}
 use Rattle.blocks.specs.Classes.{numberIn, distinct}
-use Rattle.blocks.specs.Inner.Layout.{part, firstsOf}
-use Rattle.cuts.specs.Inner.Classing.{countNoted, firstsNoted, latestClass, CutRows, cutRows, foundKnown, blockClassed, cutLists, Classed, CutSoFar, BlockRoom, CutRoom, CutClassed}
+use Rattle.blocks.specs.Inner.Layout.{part, numbersOf, firstsOf}
+use Rattle.cuts.specs.Inner.Classing.{countNoted, firstsNoted, usesNoted, latestClass, CutRows, foundKnown, blockClassed, cutLists, Classed, CutSoFar, BlockRoom, CutRoom, CutClassed}
 use Rattle.tries.specs.Tries.{numberTried, triedAt}
-use Rattle.search.specs.Inner.Searching.{partDifferences, foundAmong}
-use Rattle.blocks.specs.Laws.Known.{number-at, number-by, own-distinct, Among, distinct-seen}
+use Rattle.uses.specs.Uses.{useCount, usesAt, usesOf}
+use Rattle.search.specs.Inner.Searching.{partDifferences, usesWith, SmallCounts, foundAmong}
+use Rattle.blocks.specs.Laws.Known.{number-le, number-at, number-by, own-distinct, Among, distinct-seen}
 use Rattle.search.specs.Laws.Searching.{length-parts, part-at}
 use Rattle.cuts.specs.Laws.Classing.{none-classed, before-length, classed-next, known-places, all-classed}
+use Rattle.cuts.specs.Laws.Noting.{noted-next, all-noted}
 use Rattle.cuts.specs.Laws.Tries.{latest-among, tries-next, all-tried}
+use Rattle.cuts.specs.Laws.Uses.{length-numbers, uses-few, uses-are, use-counts-next, all-counted}
 
 pub length-cut-lists : (table : List ℤ) (size count : ℕ) → length (cutLists table size count) ≡ count
 length-cut-lists table size count = length-parts table size (numbersFrom 0 count) ∙ length-range 0 count
@@ -38,16 +41,56 @@ length-noted firstRow known j class =
     (λ e. rw e (simp length-set))
     (λ e. rw e (simp length-set))
 
+length-uses-noted : (useCountRow : List ℕ) (j class uses : ℕ) → length (usesNoted useCountRow j class uses) ≡ length useCountRow
+unfolding usesNoted
+length-uses-noted useCountRow j class uses = simp length-set
+
+-- ---- what the search is lent and finds at a block
+
+module _ {table : List ℤ} {size j : ℕ} {rows : CutRows} (r : BlockRoom table size j rows) where
+  -- The class that it finds is known or the next new one.
+  pub found-inside : (values : List ℤ) → foundKnown table size j values rows .class ≤ j
+  unfolding foundKnown foundAmong
+  found-inside values =
+      let firsts = take (rows .known) (rows .firstRow) in
+      let n = number-le (partDifferences table size firsts) (differences values) in
+      let p = length-parts table size firsts in
+      let f = r .few in
+      let a = r .alike .firstsAlike in
+      let i = r .inside in
+      let t = length-take-le (rows .known) (rows .firstRow) (omega arith) in
+      omega arith
+
+  -- One more can be added to each use count.
+  pub counts-small : j < 2 ^ 63 → SmallCounts (take (rows .known) (rows .useCountRow))
+  counts-small fits = record {
+    small = λ class l.
+        let f = r .few in
+        let a = r .alike .useCountsAlike in
+        let i = r .inside in
+        let t = length-take-le (rows .known) (rows .useCountRow) (omega arith) in
+        let below : class < rows .known = omega arith in
+        let u = r .usesFew class below in
+        let e = getD-take (rows .known) (rows .useCountRow) class 0 below in
+        omega arith;
+  }
+
+-- ---- block by block
+
 -- No block is classed yet.
-pub cut-start : (table : List ℤ) (size : ℕ) (classRow firstRow triedRow : List ℕ) → CutRoom table size classRow firstRow triedRow → CutSoFar table size (length classRow) 0 (cutRows 0 classRow firstRow triedRow)
+pub cut-start : (table : List ℤ) (size : ℕ) (rows : CutRows) → rows .known ≡ 0 → CutRoom table size rows → CutSoFar table size (length (rows .classRow)) 0 rows
 unfolding numbersFrom
-cut-start table size classRow firstRow triedRow room = record {
+cut-start table size rows none room = record {
   inside = omega arith;
   classPlaces = refl;
-  firstPlaces = room .firstsAlike;
-  triedPlaces = room .triedAlike;
-  classed = none-classed (cutLists table size (length classRow)) classRow firstRow;
+  firstPlaces = room .alike .firstsAlike;
+  triedPlaces = room .alike .triedAlike;
+  usesPlaces = room .alike .usesAlike;
+  useCountPlaces = room .alike .useCountsAlike;
+  classed = subst (λ count. Classed (cutLists table size (length (rows .classRow))) 0 count (rows .classRow) (rows .firstRow)) (sym none) (none-classed (cutLists table size (length (rows .classRow))) (rows .classRow) (rows .firstRow));
   tried = refl;
+  used = refl;
+  useCounted = λ class l. absurd (omega arith);
 }
 
 module _ {table : List ℤ} {size count j : ℕ} {rows : CutRows} (s : CutSoFar table size count j rows) (below : j < count) where
@@ -115,9 +158,14 @@ module _ {table : List ℤ} {size count j : ℕ} {rows : CutRows} (s : CutSoFar 
           rw (sym known-count, sym k) (latest-among ds (rows .classRow) (rows .firstRow) j (rows .known) below-ds (s .classed) (omega arith));
     };
     few = cut-few;
+    usesFew = uses-few ds j below-ds (rows .known) (s .classed .known) cut-few (rows .useCountRow) (rw (s .useCountPlaces) below) (s .useCounted);
     inside = rw (s .classPlaces) below;
-    firstsAlike = s .firstPlaces ∙ sym (s .classPlaces);
-    triedAlike = s .triedPlaces ∙ sym (s .classPlaces);
+    alike = record {
+      firstsAlike = s .firstPlaces ∙ sym (s .classPlaces);
+      triedAlike = s .triedPlaces ∙ sym (s .classPlaces);
+      usesAlike = s .usesPlaces ∙ sym (s .classPlaces);
+      useCountsAlike = s .useCountPlaces ∙ sym (s .classPlaces);
+    };
   }
 
   -- One block more.
@@ -126,6 +174,7 @@ module _ {table : List ℤ} {size count j : ℕ} {rows : CutRows} (s : CutSoFar 
   cut-next values is =
       let class = numberIn (partDifferences table size firsts) (differences values) in
       let number = numberTried (length (partDifferences table size firsts)) (latestClass (rows .classRow) j) class in
+      let uses = usesWith (take (rows .known) (rows .useCountRow)) class in
       let met : class ≡ numberIn (distinct (take j ds)) (getD ds j []) = ap₂ numberIn cut-known (ap differences is ∙ sym (cut-list-at table size count j below)) in
       let as-known : rows .known ≡ length (partDifferences table size firsts) = s .classed .known ∙ ap length (sym cut-known) in
       record {
@@ -133,6 +182,8 @@ module _ {table : List ℤ} {size count j : ℕ} {rows : CutRows} (s : CutSoFar 
         classPlaces = length-set (rows .classRow) j class ∙ s .classPlaces;
         firstPlaces = length-noted (rows .firstRow) (rows .known) j class ∙ s .firstPlaces;
         triedPlaces = length-set (rows .triedRow) j number ∙ s .triedPlaces;
+        usesPlaces = length-set (rows .usesRow) j uses ∙ s .usesPlaces;
+        useCountPlaces = length-uses-noted (rows .useCountRow) j class uses ∙ s .useCountPlaces;
         classed =
             subst (λ n. Classed ds n (countNoted (rows .known) class) (set (rows .classRow) j class) (firstsNoted (rows .firstRow) (rows .known) j class)) (sym (add-one j))
             (classed-next ds j below-ds (rows .known) (rows .classRow) (rows .firstRow) class (s .classed) met
@@ -141,28 +192,41 @@ module _ {table : List ℤ} {size count j : ℕ} {rows : CutRows} (s : CutSoFar 
             ap₂ (λ n k. take n (set (rows .triedRow) j (numberTried k (latestClass (rows .classRow) j) class))) (add-one j) (sym as-known)
             ∙ tries-next ds (rows .classRow) (rows .firstRow) j (rows .known) (rows .triedRow) below-ds (rw (s .triedPlaces) below) (s .classed) class met (s .tried)
             ∙ ap (λ n. map (triedAt ds) (numbersFrom 0 n)) (sym (add-one j));
+        used =
+            ap (λ n. take n (set (rows .usesRow) j uses)) (add-one j)
+            ∙ noted-next (usesAt (numbersOf ds)) (rows .usesRow) j uses (rw (s .usesPlaces) below)
+            (uses-are ds j below-ds (rows .known) (s .classed .known) cut-few (rows .useCountRow) (rw (s .useCountPlaces) below) (s .useCounted) class met)
+            (s .used)
+            ∙ ap (λ n. map (usesAt (numbersOf ds)) (numbersFrom 0 n)) (sym (add-one j));
+        useCounted = λ k l.
+            use-counts-next ds j below-ds (rows .known) (s .classed .known) cut-few (rows .useCountRow) (rw (s .useCountPlaces) below) (s .useCounted) class met k (omega arith)
+            ∙ ap (λ n. useCount (take n (numbersOf ds)) k) (sym (add-one j));
       }
 
 pub cut-done : (table : List ℤ) (size count : ℕ) (rows : CutRows) → CutSoFar table size count count rows → CutClassed table size count rows
+unfolding usesOf
 cut-done table size count rows s =
     let ds = cutLists table size count in
     let l = length-cut-lists table size count in
+    let many = length-numbers ds ∙ l in
     let a = all-classed ds (rows .known) (rows .classRow) (rows .firstRow) (s .classPlaces ∙ sym l) (s .firstPlaces ∙ sym l) (subst (λ n. Classed ds n (rows .known) (rows .classRow) (rows .firstRow)) (sym l) (s .classed)) in
     record {
       counted = a .0;
       numbered = a .1 .0;
       placed = a .1 .1 ∙ ap (λ n. firstsOf n ds) l;
+      used = all-noted (usesAt (numbersOf ds)) (rows .usesRow) (length (numbersOf ds)) (s .usesPlaces ∙ sym many) (subst (λ n. take n (rows .usesRow) ≡ map (usesAt (numbersOf ds)) (numbersFrom 0 n)) (sym many) (s .used));
+      useCounted = all-counted ds (rows .useCountRow) (s .useCountPlaces ∙ sym l) (λ class inside. s .useCounted class (rw l at inside) ∙ ap (λ n. useCount (take n (numbersOf ds)) class) (sym l));
       tried = all-tried ds (rows .triedRow) (s .triedPlaces ∙ sym l) (subst (λ n. take n (rows .triedRow) ≡ map (triedAt ds) (numbersFrom 0 n)) (sym l) (s .tried));
     }
 
 -- A cut of one block, the table.
-pub one-block : (table : List ℤ) (size : ℕ) (classRow firstRow triedRow : List ℕ) → CutRoom table size classRow firstRow triedRow → length classRow ≡ 1 → (rows : CutRows) → rows ≡ blockClassed table size 0 table (cutRows 0 classRow firstRow triedRow) → CutClassed table size (length classRow) rows
+pub one-block : (table : List ℤ) (size : ℕ) (rows : CutRows) → rows .known ≡ 0 → CutRoom table size rows → length (rows .classRow) ≡ 1 → (next : CutRows) → next ≡ blockClassed table size 0 table rows → CutClassed table size (length (rows .classRow)) next
 unfolding part
-one-block table size classRow firstRow triedRow room one rows is =
-    cut-done table size (length classRow) rows
-    (subst (λ r. CutSoFar table size (length classRow) (length classRow) r) (sym is)
-    (subst (λ k. CutSoFar table size (length classRow) k (blockClassed table size 0 table (cutRows 0 classRow firstRow triedRow))) (sym one)
-    (cut-next (cut-start table size classRow firstRow triedRow room) (omega arith) table whole)))
+one-block table size rows none room one next is =
+    cut-done table size (length (rows .classRow)) next
+    (subst (λ r. CutSoFar table size (length (rows .classRow)) (length (rows .classRow)) r) (sym is)
+    (subst (λ k. CutSoFar table size (length (rows .classRow)) k (blockClassed table size 0 table rows)) (sym one)
+    (cut-next (cut-start table size rows none room) (omega arith) table whole)))
   where
     whole : table ≡ take size (drop (0 * size) table)
     whole =

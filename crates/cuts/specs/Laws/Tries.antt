@@ -1,19 +1,19 @@
 -- The latest class and the number tried while lists are classed one by one.
 use Prim.Native.Nat.{ℕ, zero, suc, _-_, _<_}
 use mathlib.Core.Path.{_≡_, sym, _∙_, ap, ap₂}
-use mathlib.Core.List.{List, [], _∷_, _++_, map, map-append}
-use native.Mathlib.Nat.{zero-add}
+use mathlib.Core.List.{List, [], map}
 use native.Mathlib.Omega.{arith}
 use lib.ListN.{length, getD, take, set}
-use lib.Seq.{take-suc-set, take-length, getD-take, length-take-le}
+use lib.Seq.{getD-take, length-take-le}
 use lib.IntN.{ℤ}
 use Rattle.numbers.specs.Lists.{numbersFrom}
-use Rattle.numbers.specs.Laws.Lists.{getD-map, range-suc}
+use Rattle.numbers.specs.Laws.Lists.{getD-map}
 use Rattle.blocks.specs.Classes.{numberIn, distinct}
 use Rattle.tries.specs.Tries.{numberTried, blockClass, knownBefore, triedAt, triesOf}
 use Rattle.tries.specs.Laws.Latest.{none-before, class-met, latest-before}
 use Rattle.tries.specs.Laws.Order.{tried-none}
 use Rattle.cuts.specs.Inner.Classing.{Classed, latestClass}
+use Rattle.cuts.specs.Laws.Noting.{noted-next, all-noted}
 
 module _ (ds : List (List ℤ)) (numbers firsts : List ℕ) where
   -- The count is how many classes are known.
@@ -50,13 +50,9 @@ module _ (ds : List (List ℤ)) (numbers firsts : List ℕ) where
   pub tries-next : (j count : ℕ) (tries : List ℕ) → j < length ds → j < length tries → Classed ds j count numbers firsts → (class : ℕ) → class ≡ numberIn (distinct (take j ds)) (getD ds j [])
       → take j tries ≡ map (triedAt ds) (numbersFrom 0 j)
       → take (suc j) (set tries j (numberTried count (latestClass numbers j) class)) ≡ map (triedAt ds) (numbersFrom 0 (suc j))
-  tries-next j count tries below room c class is so-far =
-      take-suc-set tries j (numberTried count (latestClass numbers j) class) room
-      ∙ ap₂ (λ l t. l ++ t ∷ []) so-far (tried-is j count below c class is)
-      ∙ sym (map-append (triedAt ds) (numbersFrom 0 j) (j ∷ []))
-      ∙ ap (map (triedAt ds)) (ap (λ k. numbersFrom 0 j ++ k ∷ []) (sym (zero-add j)) ∙ sym (range-suc 0 j))
+  tries-next j count tries below room c class is so-far = noted-next (triedAt ds) tries j (numberTried count (latestClass numbers j) class) room (tried-is j count below c class is) so-far
 
 -- When all lists are classed, the row is whole.
 pub all-tried : (ds : List (List ℤ)) (tries : List ℕ) → length tries ≡ length ds → take (length ds) tries ≡ map (triedAt ds) (numbersFrom 0 (length ds)) → tries ≡ triesOf ds
 unfolding triesOf
-all-tried ds tries e t = sym (ap (λ n. take n tries) (sym e) ∙ take-length tries) ∙ t
+all-tried ds tries e t = all-noted (triedAt ds) tries (length ds) e t

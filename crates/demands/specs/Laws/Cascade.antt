@@ -3,7 +3,7 @@ use Prim.Native.Nat.{ℕ, zero, suc, _+_, _^_, _≤_, _<_}
 use mathlib.Core.Path.{_≡_, refl, sym, _∙_, ap, subst}
 use mathlib.Core.Logic.{_↔_}
 use mathlib.Core.Bool.{true, _&&_, true≢false}
-use mathlib.Core.List.{List, [], _∷_, _++_, map}
+use mathlib.Core.List.{List, [], _∷_, _++_}
 use native.Mathlib.Omega.{arith}
 use lib.ListN.{length, getD, take, drop, replicate}
 use lib.IntN.{ℤ}
@@ -15,10 +15,9 @@ use Rattle.numbers.specs.Laws.Answers.{not-refused, unless-accepted, map-refuse
 use Rattle.numbers.specs.Laws.Bools.{both, and-both}
 use Rattle.blocks.specs.Classes.{railAt}
 use Rattle.diagram.specs.Build.{ofTable}
-use Rattle.cascade.specs.Cascade.{cellsFrom}
 use Rattle.cascade.specs.Compile.{imageFor, compile, report, compileAnswer, compileCells, compileBuffer}
 use Rattle.cascade.specs.Groupings.{BestGrouping, addressWidth, fitsFrom, fits, chosen, isGrouping}
-use Rattle.cascade.specs.Plan.{plan, planCell, noCell, entries, sizeArray, cellArray, totals, planAnswer}
+use Rattle.cascade.specs.Plan.{plan, planCells, noCell, entries, sizeArray, cellArray, totals, planAnswer}
 use Rattle.cascade.specs.Laws.Chosen.{chosen-refuses, chosen-refuses-by-nine, chosen-best, best-chosen}
 use Rattle.demands.specs.Checks.{_otherwise_, AllHold, Decided}
 use Rattle.demands.specs.Admitted.{FittingGrouping, planChecks, compileChecks}
@@ -155,7 +154,7 @@ module _ (n : ℕ) (table : List ℤ) (limit : ℕ) where
   plan-value h best b = ap (mapAnswer (totals n table)) (sizes-value h best b)
 
   -- The arrays beside Plan's verdict: the entries, and 0 behind them.
-  pub plan-arrays : AllHold (planChecks n table limit) → (best : List ℕ) → BestGrouping n table limit best → (sizeArray (plan n table limit) ≡ padded 12 0 best) × (cellArray n table (plan n table limit) ≡ padded 12 noCell (map planCell (cellsFrom n table 0 best)))
+  pub plan-arrays : AllHold (planChecks n table limit) → (best : List ℕ) → BestGrouping n table limit best → (sizeArray (plan n table limit) ≡ padded 12 0 best) × (cellArray n table (plan n table limit) ≡ padded 12 noCell (planCells n table 0 best))
   unfolding sizeArray cellArray entries mostVariables
   plan-arrays h best b = rw (sizes-value h best b) (refl, refl)
 
@@ -170,7 +169,7 @@ module _ (n : ℕ) (table : List ℤ) (limit : ℕ) where
   unfolding compileAnswer
   compile-value room h best b = ap (mapAnswer (report n table)) (compiled-value room h best b)
 
-  pub compile-cells : (room : ℕ) → AllHold (compileChecks n table limit room) → (best : List ℕ) → BestGrouping n table limit best → compileCells n table limit room ≡ padded 12 noCell (map planCell (cellsFrom n table 0 best))
+  pub compile-cells : (room : ℕ) → AllHold (compileChecks n table limit room) → (best : List ℕ) → BestGrouping n table limit best → compileCells n table limit room ≡ padded 12 noCell (planCells n table 0 best)
   unfolding compileCells cellArray entries mostVariables
   compile-cells room h best b = rw (compiled-value room h best b)
 

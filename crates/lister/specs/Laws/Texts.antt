@@ -1,7 +1,7 @@
 -- The text of a table, from what Build's buffer and Plan's arrays hold.
 use Prim.Native.Nat.{ℕ, zero, suc, _+_, _-_, _*_, _^_, _≤_, _<_}
 use mathlib.Core.Path.{_≡_, refl, sym, _∙_, ap, ap₂, subst}
-use mathlib.Core.List.{List, [], _∷_, _++_, map, flatMap, append-assoc}
+use mathlib.Core.List.{List, [], _∷_, _++_, flatMap, append-assoc}
 use native.Mathlib.Numerals.{add-one}
 use native.Mathlib.Omega.{arith}
 use lib.ListN.{length, getD, drop, length-append}
@@ -21,11 +21,11 @@ use Rattle.diagram.specs.Laws.Numbering.{written-length, records-room}
 use Rattle.diagram.specs.declared.Built.{Built}
 use Rattle.diagram.specs.declared.Built.the-variants.{Diagram, Refused}
 use Rattle.diagram.specs.Walk.{recordCount}
-use Rattle.image.specs.Cells.{Cell, totalBits}
+use Rattle.image.specs.Cells.{totalBits}
 use Rattle.image.specs.Reader.{mostClasses}
-use Rattle.cascade.specs.Cascade.{cellsFrom}
+use Rattle.cascade.specs.Cascade.{cellOf, cellsFrom}
 use Rattle.cascade.specs.Groupings.{cost}
-use Rattle.cascade.specs.Plan.{planCell, noCell, Plans}
+use Rattle.cascade.specs.Plan.{planCell, planCells, noCell, Plans}
 use Rattle.cascade.specs.declared.Planned.{Planned}
 use Rattle.cascade.specs.declared.Verdict.the-variants.{Grouping}
 use Rattle.cascade.specs.declared.Cell.{Cell as PlanCell}
@@ -103,14 +103,14 @@ module _ (n : ℕ) (table buffer nodes : List ℤ) (answer : Built) (a : Accepte
 -- ---- cell lines
 
 -- A cell's line is that of Plan's cell.
-plan-lines-are : (cells : List Cell) → flatMap planLine (map planCell cells) ≡ flatMap cellLine cells
-unfolding flatMap planLine planCell cellLine
-plan-lines-are [] = refl
-plan-lines-are (cell ∷ cells) = ap (λ more. cellLine cell ++ more) (plan-lines-are cells)
+plan-lines-are : (n : ℕ) (table : List ℤ) (h : ℕ) (sizes : List ℕ) → flatMap planLine (planCells n table h sizes) ≡ flatMap cellLine (cellsFrom n table h sizes)
+unfolding flatMap planLine planCell planCells cellLine cellsFrom
+plan-lines-are n table h [] = refl
+plan-lines-are n table h (g ∷ sizes) = ap (λ more. cellLine (cellOf n table h g) ++ more) (plan-lines-are n table (h + g) sizes)
 
 -- The numbers of each cell are small.
-small-from : (n : ℕ) (table : List ℤ) → Accepted n table → (h : ℕ) (sizes : List ℕ) → h + sumOf sizes ≡ n → (k : ℕ) → k < length sizes → CellSmall (getD (map planCell (cellsFrom n table h sizes)) k noCell)
-unfolding cellsFrom sumOf planCell mostClasses widestAddress
+small-from : (n : ℕ) (table : List ℤ) → Accepted n table → (h : ℕ) (sizes : List ℕ) → h + sumOf sizes ≡ n → (k : ℕ) → k < length sizes → CellSmall (getD (planCells n table h sizes) k noCell)
+unfolding planCells sumOf planCell mostClasses widestAddress
 small-from n table a h [] e k l = absurd (omega arith)
 small-from n table a h (g ∷ sizes) e zero l =
     let ends : h + g ≤ n = omega arith in
@@ -140,7 +140,7 @@ module _ {n : ℕ} {table : List ℤ} {sizes : List ℕ} {cells : List PlanCell}
   -- Their text is that of the grouping's cells.
   pub cascade-text : cascadeText cells count bits ≡ flatMap cellLine (cellsFrom n table 0 sizes) ++ line "bits" (pos (totalBits (cellsFrom n table 0 sizes)) ∷ [])
   unfolding cascadeText planLines cost
-  cascade-text = ap₂ (λ lines total. lines ++ line "bits" (pos total ∷ [])) (ap (flatMap planLine) (front a p) ∙ plan-lines-are (cellsFrom n table 0 sizes)) (p .total)
+  cascade-text = ap₂ (λ lines total. lines ++ line "bits" (pos total ∷ [])) (ap (flatMap planLine) (front a p) ∙ plan-lines-are n table 0 sizes) (p .total)
 
   -- ---- the whole text
 

@@ -10,7 +10,7 @@ use Rattle.numbers.specs.Lists.{sumOf}
 use Rattle.diagram.specs.Accepted.{Accepted}
 use Rattle.cascade.specs.Cascade.{cellOf, cellsFrom}
 use Rattle.cascade.specs.Compile.{imageFor}
-use Rattle.cascade.specs.Plan.{planCell, noCell}
+use Rattle.cascade.specs.Plan.{planCell, planCells, noCell}
 use Rattle.cascade.specs.Inner.Planned.{groups, PlannedAs}
 use Rattle.cascade.specs.declared.Cell.{Cell}
 use Rattle.cascade.specs.Laws.Cards.{grouping-sum}
@@ -22,14 +22,14 @@ use Rattle.writer.specs.Inner.Writing.{CellsPlanned}
 use Rattle.measures.specs.Inner.Lengths.{plannedBytes, plannedLength, SmallCell, SmallCells}
 
 -- The bytes of a grouping's cells.
-bytes-of : (n : ℕ) (table : List ℤ) (h : ℕ) (sizes : List ℕ) → sumOf (map plannedBytes (map planCell (cellsFrom n table h sizes))) ≡ sumOf (map (λ cell. 7 + 7 * length (cell .words)) (cellsFrom n table h sizes))
-unfolding cellsFrom sumOf plannedBytes planCell cellOf
+bytes-of : (n : ℕ) (table : List ℤ) (h : ℕ) (sizes : List ℕ) → sumOf (map plannedBytes (planCells n table h sizes)) ≡ sumOf (map (λ cell. 7 + 7 * length (cell .words)) (cellsFrom n table h sizes))
+unfolding planCells cellsFrom sumOf plannedBytes planCell cellOf
 bytes-of n table h [] = refl
 bytes-of n table h (g ∷ sizes) = ap₂ (λ words rest. 7 + 7 * words + rest) (sym (cell-words n table h g)) (bytes-of n table (h + g) sizes)
 
 -- Each of them is small.
-small-from : (n : ℕ) (table : List ℤ) → Accepted n table → (h : ℕ) (sizes : List ℕ) → h + sumOf sizes ≡ n → (k : ℕ) → k < length sizes → SmallCell (getD (map planCell (cellsFrom n table h sizes)) k noCell)
-unfolding cellsFrom sumOf planCell cellOf
+small-from : (n : ℕ) (table : List ℤ) → Accepted n table → (h : ℕ) (sizes : List ℕ) → h + sumOf sizes ≡ n → (k : ℕ) → k < length sizes → SmallCell (getD (planCells n table h sizes) k noCell)
+unfolding planCells sumOf planCell cellOf
 small-from n table a h [] e k l = absurd (omega arith)
 small-from n table a h (g ∷ sizes) e zero l = record {
   group = let m = variables-most n table a in omega arith;

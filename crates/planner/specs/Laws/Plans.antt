@@ -18,7 +18,7 @@ use Rattle.diagram.specs.Laws.Builds.{after-checks}
 use Rattle.image.specs.Cells.{totalBits}
 use Rattle.cascade.specs.Cascade.{cellsFrom}
 use Rattle.cascade.specs.Groupings.{chosen, cost}
-use Rattle.cascade.specs.Plan.{plan, planCell, noCell, entries, sizeArray, cellArray, totals, planAnswer, judgement, Plans}
+use Rattle.cascade.specs.Plan.{plan, planCells, noCell, entries, sizeArray, cellArray, totals, planAnswer, judgement, Plans}
 use Rattle.cascade.specs.Theorems.{plan-chooses}
 use Rattle.cascade.specs.Inner.Choices.{sizeOf, sizesFrom, answered, tableChoice}
 use Rattle.cascade.specs.declared.Choice.{Choice}
@@ -57,7 +57,7 @@ module _ (n : ℕ) (table : List ℤ) (limit : ℕ) where
 
 -- ---- the chosen cells
 
-module _ {n : ℕ} {countRow : List ℕ} {choices : List Choice} (k : ChoicesKnown n countRow choices) where
+module _ {n : ℕ} {countRow useCountRow : List ℕ} {choices : List Choice} (k : ChoicesKnown n countRow useCountRow choices) where
   abbrev table : List ℤ
   table = k .table
 
@@ -65,23 +65,23 @@ module _ {n : ℕ} {countRow : List ℕ} {choices : List Choice} (k : ChoicesKno
   at = tableChoice n (k .table) (k .limit)
 
   -- From a cut on, the cells that the choices lead to are those of the sizes that they lead to.
-  cells-are : (most h : ℕ) → (h < n → (cost : ℕ) × ((size : ℕ) × (at h ≡ Costing cost size))) → chosenCells countRow choices n most h ≡ map planCell (cellsFrom n table h (sizesFrom at n most h))
-  unfolding chosenCells sizesFrom cellsFrom sizeOf
+  cells-are : (most h : ℕ) → (h < n → (cost : ℕ) × ((size : ℕ) × (at h ≡ Costing cost size))) → chosenCells countRow useCountRow choices n most h ≡ planCells n table h (sizesFrom at n most h)
+  unfolding chosenCells sizesFrom planCells sizeOf
   cells-are zero h ahead = refl
   cells-are (suc most) h ahead =
       yes-or-no (ltb h n)
       (λ l.
       let below = ltb-true h n l in
       let here = ahead below in
-      let c : CellChosen n h countRow choices = record { known = k; cut = below; cost = here .0; size = here .1 .0; some = here .1 .1 } in
-      cells-step countRow choices n most h below
+      let c : CellChosen n h countRow useCountRow choices = record { known = k; cut = below; cost = here .0; size = here .1 .0; some = here .1 .1 } in
+      cells-step countRow useCountRow choices n most h below
       ∙ ap₂ (λ cell rest. cell ∷ rest) (cell-is c)
-      (ap (λ g. chosenCells countRow choices n most (h + g)) (size-is c)
+      (ap (λ g. chosenCells countRow useCountRow choices n most (h + g)) (size-is c)
       ∙ cells-are most (h + here .1 .0) (λ m. (leads c .rest, (leads c .next, leads c .below))))
-      ∙ sym (ap (λ sizes. map planCell (cellsFrom n table h sizes)) (sizes-step at n most h below ∙ ap (λ g. g ∷ sizesFrom at n most (h + g)) (ap sizeOf (here .1 .1)))))
-      (λ l. let past = ltb-false h n l in cells-end countRow choices n (suc most) h past ∙ sym (ap (λ sizes. map planCell (cellsFrom n table h sizes)) (sizes-end at n (suc most) h past)))
+      ∙ sym (ap (planCells n table h) (sizes-step at n most h below ∙ ap (λ g. g ∷ sizesFrom at n most (h + g)) (ap sizeOf (here .1 .1)))))
+      (λ l. let past = ltb-false h n l in cells-end countRow useCountRow choices n (suc most) h past ∙ sym (ap (planCells n table h) (sizes-end at n (suc most) h past)))
 
-module _ {n : ℕ} {countRow : List ℕ} {choices : List Choice} (r : ListChosen n countRow choices) where
+module _ {n : ℕ} {countRow useCountRow : List ℕ} {choices : List Choice} (r : ListChosen n countRow useCountRow choices) where
   abbrev whole : List ℕ
   whole = sizesFrom (tableChoice n (r .known .table) (r .known .limit)) n n 0
 
@@ -89,10 +89,10 @@ module _ {n : ℕ} {countRow : List ℕ} {choices : List Choice} (r : ListChosen
   unfolding answered
   planned l = plan-chooses n (r .known .table) (r .known .admitted) (r .known .limit) l ∙ chosen-by-choices n (r .known .table) (r .known .limit) ∙ ap (λ choice. answered choice whole) (r .some)
 
-  cells : chosenCells countRow choices n n 0 ≡ map planCell (cellsFrom n (r .known .table) 0 whole)
+  cells : chosenCells countRow useCountRow choices n n 0 ≡ planCells n (r .known .table) 0 whole
   cells = cells-are (r .known) n 0 (λ m. (r .cost, (r .size, r .some)))
 
-  sizes : map (λ cell. cell .group) (chosenCells countRow choices n n 0) ≡ whole
+  sizes : map (λ cell. cell .group) (chosenCells countRow useCountRow choices n n 0) ≡ whole
   sizes = ap (map (λ cell. cell .group)) cells ∙ groups-back n (r .known .table) 0 whole
 
   total : totalBits (cellsFrom n (r .known .table) 0 whole) ≡ r .cost
@@ -100,10 +100,10 @@ module _ {n : ℕ} {countRow : List ℕ} {choices : List Choice} (r : ListChosen
   total = choice-top-cost n (r .known .table) (r .known .limit) (r .cost) (r .size) (r .some)
 
   -- Some list fits: Plan answers the sizes and the cells that the choices lead to, with the cost of the top choice.
-  pub listed-plans : isLimit (r .known .limit) ≡ true → Plans n (r .known .table) (r .known .limit) (listedPlan (chosenCells countRow choices n n 0) (r .cost))
+  pub listed-plans : isLimit (r .known .limit) ≡ true → Plans n (r .known .table) (r .known .limit) (listedPlan (chosenCells countRow useCountRow choices n n 0) (r .cost))
   unfolding listedPlan judgement planAnswer sizeArray cellArray entries totals
   listed-plans l = record {
-    judged = ap₂ (λ k bits. accepted (record { cells = k; bits = bits })) (sym (length-map (chosenCells countRow choices n n 0) (λ cell. cell .group)) ∙ ap length sizes) (sym total) ∙ sym (ap (mapAnswer (totals n (r .known .table))) (planned l));
+    judged = ap₂ (λ k bits. accepted (record { cells = k; bits = bits })) (sym (length-map (chosenCells countRow useCountRow choices n n 0) (λ cell. cell .group)) ∙ ap length sizes) (sym total) ∙ sym (ap (mapAnswer (totals n (r .known .table))) (planned l));
     listed = ap (padded mostVariables 0) sizes ∙ sym (ap sizeArray (planned l));
     priced = ap (padded mostVariables noCell) cells ∙ sym (ap (cellArray n (r .known .table)) (planned l));
   }

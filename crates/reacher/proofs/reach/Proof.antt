@@ -76,30 +76,30 @@ sub-places c = rw (c .power .ensures) (pow-pos (n c + 1))
 array-borrow-prefix-classes : tie.Need-array-borrow-prefix-classes
 array-borrow-prefix-classes c = few-places c
 
-slice-aggregate-class-cuts : tie.Need-slice-aggregate-class-cuts
-slice-aggregate-class-cuts c = sym (length-take-le _ _ (few-places (c .before)))
+slice-aggregate-class-table : tie.Need-slice-aggregate-class-table
+slice-aggregate-class-table c = sym (length-take-le _ _ (few-places (c .before)))
 
 array-borrow-prefix-firsts : tie.Need-array-borrow-prefix-firsts
 array-borrow-prefix-firsts c = few-places (c .before)
 
-slice-aggregate-class-cuts-2 : tie.Need-slice-aggregate-class-cuts-2
-slice-aggregate-class-cuts-2 c = sym (length-take-le _ _ (few-places (c .before .before)))
+slice-aggregate-class-table-2 : tie.Need-slice-aggregate-class-table-2
+slice-aggregate-class-table-2 c = sym (length-take-le _ _ (few-places (c .before .before)))
 
 array-borrow-prefix-counts : tie.Need-array-borrow-prefix-counts
 array-borrow-prefix-counts c = few-counts (c .before .before)
 
-slice-aggregate-class-cuts-3 : tie.Need-slice-aggregate-class-cuts-3
-slice-aggregate-class-cuts-3 c = sym (length-take-le _ _ (few-counts (c .before .before .before)))
+slice-aggregate-class-table-3 : tie.Need-slice-aggregate-class-table-3
+slice-aggregate-class-table-3 c = sym (length-take-le _ _ (few-counts (c .before .before .before)))
 
-array-borrow-prefix-tried : tie.Need-array-borrow-prefix-tried
-array-borrow-prefix-tried c = few-places (c .before .before .before)
+array-borrow-prefix-use-counts : tie.Need-array-borrow-prefix-use-counts
+array-borrow-prefix-use-counts c = few-places (c .before .before .before)
 
-slice-aggregate-class-cuts-4 : tie.Need-slice-aggregate-class-cuts-4
-slice-aggregate-class-cuts-4 c = sym (length-take-le _ _ (few-places (c .before .before .before .before)))
+slice-aggregate-class-table-4 : tie.Need-slice-aggregate-class-table-4
+slice-aggregate-class-table-4 c = sym (length-take-le _ _ (few-places (c .before .before .before .before)))
 
-class-cuts-requires : tie.Need-class-cuts-requires
+class-table-requires : tie.Need-class-table-requires
 unfolding mostVariables
-class-cuts-requires c κs =
+class-table-requires c κs =
     let p = c .before .before .before .before in (
       (
         record {
@@ -114,7 +114,7 @@ class-cuts-requires c κs =
     )
 
 -- What the classing left in the row of the counts.
-module _ (c : tie.After-class-cuts) where
+module _ (c : tie.After-class-table) where
   abbrev passed : tie.After-enum-told
   passed = c .before .before .before .before .before .before
 
@@ -122,10 +122,10 @@ module _ (c : tie.After-class-cuts) where
   whole = start passed
 
   abbrev left : List ℕ
-  left = c .class-cuts .last .1 .1 .1 .1 .0
+  left = c .class-table .last .1 .1 .1 .1 .0
 
   counted : left ≡ allCounts (whole .args .n) (whole .args .table .now)
-  counted = c .class-cuts .ensures .0 .counted
+  counted = c .class-table .ensures .0 .counted
 
   kept : length left ≡ whole .args .n + 1
   kept = ap length counted ∙ length-counts (whole .args .n) (whole .args .table .now) ∙ sym (add-one (whole .args .n))
@@ -180,14 +180,14 @@ reach-spec =
     power-requires
     sub-places
     array-borrow-prefix-classes
-    slice-aggregate-class-cuts
+    slice-aggregate-class-table
     array-borrow-prefix-firsts
-    slice-aggregate-class-cuts-2
+    slice-aggregate-class-table-2
     array-borrow-prefix-counts
-    slice-aggregate-class-cuts-3
-    array-borrow-prefix-tried
-    slice-aggregate-class-cuts-4
-    class-cuts-requires
+    slice-aggregate-class-table-3
+    array-borrow-prefix-use-counts
+    slice-aggregate-class-table-4
+    class-table-requires
     array-share-prefix-counts
     slice-aggregate-reach-counts
     reach-counts-requires

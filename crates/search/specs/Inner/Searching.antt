@@ -1,5 +1,5 @@
 -- What the search for a block's class is lent, and what it answers.
-use Prim.Native.Nat.{ℕ, _+_, _-_, _*_, _≤_, _<_}
+use Prim.Native.Nat.{ℕ, _+_, _-_, _*_, _^_, _≤_, _<_}
 use mathlib.Core.Path.{_≡_}
 use mathlib.Core.List.{List, [], map}
 use lib.ListN.{length, getD, take, drop}
@@ -9,6 +9,7 @@ use Rattle.blocks.specs.Classes.{numberIn}
 use Rattle.blocks.specs.Inner.Layout.{part}
 use Rattle.tries.specs.Tries.{numberTried}
 use Rattle.search.specs.declared.Found.{Found}
+use Rattle.search.specs.declared.Looked.{Looked}
 
 -- The differences of parts, given by their numbers.
 unfoldable pub partDifferences : List ℤ → ℕ → List ℕ → List (List ℤ)
@@ -29,6 +30,23 @@ pub record KnownClasses (table : List ℤ) (size : ℕ) (firsts : List ℕ) (lat
   pub apart : (k : ℕ) → k < length firsts → numberIn (partDifferences table size firsts) (getD (partDifferences table size firsts) k []) ≡ k
   pub among : 0 < length firsts → latest < length firsts
 
--- What the search answers for a block, given by its differences: its number among the known lists, and how many were tried.
-unfoldable pub foundAmong : List (List ℤ) → ℕ → List ℤ → Found
-foundAmong known latest d = record { class = numberIn known d; tried = numberTried (length known) latest (numberIn known d) }
+-- What looking a block up gives, the block given by its differences: its number among the known lists, and how many were tried.
+unfoldable pub lookedUp : List (List ℤ) → ℕ → List ℤ → Looked
+lookedUp known latest d = record { class = numberIn known d; tried = numberTried (length known) latest (numberIn known d) }
+
+-- The uses of a class with one block more, from the use counts so far; a class past the last of them is new.
+unfoldable pub usesWith : List ℕ → ℕ → ℕ
+usesWith useCounts class = getD useCounts class 0 + 1
+
+-- Use counts that can be counted on.
+pub record SmallCounts (useCounts : List ℕ) : Type 0 where
+  pub small : (class : ℕ) → class < length useCounts → getD useCounts class 0 < 2 ^ 63
+
+-- What the search answers for a block, given by its differences: its number among the known lists, how many were tried, and how many
+-- blocks have it then.
+unfoldable pub foundAmong : List (List ℤ) → List ℕ → ℕ → List ℤ → Found
+foundAmong known useCounts latest d = record {
+  class = numberIn known d;
+  tried = numberTried (length known) latest (numberIn known d);
+  uses = usesWith useCounts (numberIn known d);
+}

@@ -18,7 +18,7 @@ use Rattle.blocks.specs.Laws.Same.{same-true, equal-same}
 use Rattle.tries.specs.Tries.{numberTried}
 use Rattle.tries.specs.Theorems.{tried-latest, tried-before-latest, tried-behind-latest}
 use Rattle.tries.specs.Laws.Order.{tried-none, tried-new}
-use Rattle.search.specs.Inner.Searching.{partDifferences, firstBetween, KnownClasses, foundAmong}
+use Rattle.search.specs.Inner.Searching.{partDifferences, firstBetween, KnownClasses, lookedUp}
 
 -- ---- the differences of a list of parts, and of one of them
 
@@ -107,12 +107,12 @@ module _ {table : List ℤ} {size : ℕ} {firsts : List ℕ} {latest : ℕ} (k :
   has-number class l e = sym (k .apart class l) ∙ ap (numberIn known) e
 
   -- Where the number and the number tried are known, so is the answer.
-  answer : (class tries : ℕ) → class ≡ number → numberTried (length firsts) latest number ≡ tries → record { class = class; tried = tries } ≡ foundAmong known latest d
-  unfolding foundAmong
+  answer : (class tries : ℕ) → class ≡ number → numberTried (length firsts) latest number ≡ tries → record { class = class; tried = tries } ≡ lookedUp known latest d
+  unfolding lookedUp
   answer class tries e t = ap₂ (λ c m. record { class = c; tried = m }) e (sym (rw length-parts t))
 
   -- Where no class is known, the block's is the first.
-  pub first-class : length firsts ≡ 0 → record { class = 0; tried = 0 } ≡ foundAmong known latest d
+  pub first-class : length firsts ≡ 0 → record { class = 0; tried = 0 } ≡ lookedUp known latest d
   first-class none = answer 0 0 (let m : number ≤ length firsts = rw length-parts at (number-le known d) in omega arith) (rw none (tried-none latest number))
 
   module _ (some : length firsts ≡ 0 → ⊥) where
@@ -120,20 +120,20 @@ module _ {table : List ℤ} {size : ℕ} {firsts : List ℕ} {latest : ℕ} (k :
     latest-known = k .among (omega arith)
 
     -- The latest class is the block's,
-    pub latest-found : same (differences (part table size (getD firsts latest 0))) d ≡ true → record { class = latest; tried = 1 } ≡ foundAmong known latest d
+    pub latest-found : same (differences (part table size (getD firsts latest 0))) d ≡ true → record { class = latest; tried = 1 } ≡ lookedUp known latest d
     latest-found e =
         let is = has-number latest latest-known (part-at table size firsts latest latest-known ∙ same-true (differences (part table size (getD firsts latest 0))) d e) in
         answer latest 1 is (ap (numberTried (length firsts) latest) (sym is) ∙ tried-latest (length firsts) latest latest-known)
 
     -- or one before it,
-    pub before-found : (class : ℕ) → class ≡ firstBetween known 0 latest d → class < latest → record { class = class; tried = class + 2 } ≡ foundAmong known latest d
+    pub before-found : (class : ℕ) → class ≡ firstBetween known 0 latest d → class < latest → record { class = class; tried = class + 2 } ≡ lookedUp known latest d
     before-found class found l =
         let few : latest ≤ length known = rw length-parts (let m = latest-known in omega arith) in
         let is = has-number class (let m = latest-known in omega arith) (ap (λ c. getD known c []) found ∙ between-at known d 0 latest (omega arith) few (omega arith)) in
         answer class (class + 2) is (ap (numberTried (length firsts) latest) (sym is) ∙ tried-before-latest (length firsts) latest latest-known class l)
 
     -- or one behind it,
-    pub behind-found : (class : ℕ) → class ≡ firstBetween known (latest + 1) (length firsts) d → class < length firsts → record { class = class; tried = class + 1 } ≡ foundAmong known latest d
+    pub behind-found : (class : ℕ) → class ≡ firstBetween known (latest + 1) (length firsts) d → class < length firsts → record { class = class; tried = class + 1 } ≡ lookedUp known latest d
     behind-found class found l =
         let all : length firsts ≤ length known = rw length-parts (omega arith) in
         let from = between-from known d (latest + 1) (length firsts) (let m = latest-known in omega arith) all in
@@ -141,7 +141,7 @@ module _ {table : List ℤ} {size : ℕ} {firsts : List ℕ} {latest : ℕ} (k :
         answer class (class + 1) is (ap (numberTried (length firsts) latest) (sym is) ∙ tried-behind-latest (length firsts) latest latest-known class (omega arith) l)
 
     -- or else it is new.
-    pub none-found : same (differences (part table size (getD firsts latest 0))) d ≡ false → latest ≤ firstBetween known 0 latest d → (class : ℕ) → class ≡ firstBetween known (latest + 1) (length firsts) d → length firsts ≤ class → record { class = class; tried = class } ≡ foundAmong known latest d
+    pub none-found : same (differences (part table size (getD firsts latest 0))) d ≡ false → latest ≤ firstBetween known 0 latest d → (class : ℕ) → class ≡ firstBetween known (latest + 1) (length firsts) d → length firsts ≤ class → record { class = class; tried = class } ≡ lookedUp known latest d
     none-found other none-before class found none-behind =
         let is : class ≡ number = all ∙ sym new in
         answer class class is (ap (numberTried (length firsts) latest) (sym is) ∙ tried-new (length firsts) latest (k .among) class none-behind ∙ sym all)

@@ -24,18 +24,22 @@ pub class-most : (ds : List (List ℤ)) (j : ℕ) → j < length ds → blockCla
 unfolding knownBefore
 class-most ds j below = rw (class-met ds j below) (number-le (distinct (take j ds)) (getD ds j []))
 
--- The class of a block is known before the next.
-pub latest-before : (ds : List (List ℤ)) (before : ℕ) → before < length ds → blockClass ds before < knownBefore ds (suc before)
+-- The class of a block is known before every later one,
+pub known-since : (ds : List (List ℤ)) (before j : ℕ) → before < j → j ≤ length ds → blockClass ds before < knownBefore ds j
 unfolding knownBefore
-latest-before ds before below =
-    let seen = take (suc before) ds in
-    let inside : before < length seen = rw (length-take-le (suc before) ds (omega arith)) (omega arith) in
+known-since ds before j later below =
+    let seen = take j ds in
+    let inside : before < length seen = rw (length-take-le j ds below) later in
     let same : numberIn (distinct seen) (getD seen before []) ≡ blockClass ds before =
     number-when-met seen before inside
-    ∙ ap₂ (λ s d. numberIn (distinct s) d) (take-take before (suc before) ds (omega arith)) (getD-take (suc before) ds before [] (omega arith))
-    ∙ sym (class-met ds before below) in
+    ∙ ap₂ (λ s d. numberIn (distinct s) d) (take-take before j ds (omega arith)) (getD-take j ds before [] later)
+    ∙ sym (class-met ds before (omega arith)) in
     let l = distinct-known seen before inside in
     omega arith
+
+-- and so before the next.
+pub latest-before : (ds : List (List ℤ)) (before : ℕ) → before < length ds → blockClass ds before < knownBefore ds (suc before)
+latest-before ds before below = known-since ds before (suc before) (omega arith) (omega arith)
 
 -- The latest class is known where any class is.
 pub latest-known : (ds : List (List ℤ)) (j : ℕ) → j < length ds → 0 < knownBefore ds j → blockClass ds (j - 1) < knownBefore ds j

@@ -5,10 +5,9 @@ use mathlib.Core.List.{List, map, flatMap}
 use lib.IntN.{ℤ}
 use Rattle.blocks.specs.Inner.Layout.{allNumbers, allFirsts}
 use Rattle.diagram.specs.Accepted.{Accepted}
-use Rattle.image.specs.Cells.{Word, Cell}
+use Rattle.image.specs.Cells.{Word}
 use Rattle.image.specs.Commands.{commandBytes, wordCommand}
 use Rattle.cascade.specs.Cascade.{cellOf}
-use Rattle.cascade.specs.Plan.{planCell}
 use Rattle.cascade.specs.declared.Cell.{Cell as PlanCell}
 
 -- The bytes of words.
@@ -21,7 +20,9 @@ pub record RowsKnown (n : ℕ) (table : List ℤ) (classRow firstRow : List ℕ)
   pub numbered : classRow ≡ allNumbers n table
   pub placed : firstRow ≡ allFirsts n table
 
--- A planned cell of a table from cut h.
+-- A planned cell of a table from cut h: what is written of it.
 pub record CellPlanned (n h : ℕ) (table : List ℤ) (cell : PlanCell) : Type 0 where
   pub ends : h + cell .group ≤ n
-  pub planned : cell ≡ planCell (cellOf n table h (cell .group))
+  pub entering : cell .incoming ≡ cellOf n table h (cell .group) .incoming
+  pub leaving : cell .outgoing ≡ cellOf n table h (cell .group) .outgoing
+  pub wide : cell .width ≡ cellOf n table h (cell .group) .width

@@ -17,12 +17,10 @@ use Rattle.diagram.specs.Accepted.{Accepted}
 use Rattle.image.specs.Cells.{Word}
 use Rattle.image.specs.Commands.{commandBytes, wordCommand}
 use Rattle.image.specs.WellFormed.{noWord}
-use Rattle.image.specs.declared.Command.the-variants as commands
 use Rattle.cascade.specs.Cascade.{wordsOf, cellOf}
 use Rattle.cascade.specs.Inner.Words.{cellWord, WordReady}
 use Rattle.cascade.specs.Laws.Cells.{variables-most, cell-words, cell-width-most}
 use Rattle.cascade.specs.Laws.Lengths.{words-length, cell-words-most}
-use Rattle.cascade.specs.Plan.{planCell}
 use Rattle.cascade.specs.declared.Cell.{Cell as PlanCell}
 use Rattle.word_writer.specs.Inner.Writing.{wordBytes, RowsKnown, CellPlanned}
 use Rattle.numbers.specs.Laws.Written.{written-behind, length-kept}
@@ -30,25 +28,12 @@ use Rattle.numbers.specs.Laws.Written.{written-behind, length-kept}
 -- ---- a planned cell
 
 module _ {n h : ℕ} {table : List ℤ} {cell : PlanCell} (p : CellPlanned n h table cell) where
-  open CellPlanned p using (ends, planned)
-
-  -- Its numbers are those of the table's cell.
-  pub incoming-is : cell .incoming ≡ cellOf n table h (cell .group) .incoming
-  unfolding planCell
-  incoming-is = ap (λ c. c .incoming) planned
-
-  pub outgoing-is : cell .outgoing ≡ cellOf n table h (cell .group) .outgoing
-  unfolding planCell
-  outgoing-is = ap (λ c. c .outgoing) planned
-
-  pub width-is : cell .width ≡ cellOf n table h (cell .group) .width
-  unfolding planCell
-  width-is = ap (λ c. c .width) planned
+  open CellPlanned p using (ends, entering, wide)
 
   -- So many words it has.
   pub words-are : length (cellOf n table h (cell .group) .words) ≡ cell .incoming * 2 ^ cell .group
   unfolding cellOf
-  words-are = cell-words n table h (cell .group) ∙ ap (λ k. k * 2 ^ cell .group) (sym incoming-is)
+  words-are = cell-words n table h (cell .group) ∙ ap (λ k. k * 2 ^ cell .group) (sym entering)
 
   module _ (a : Accepted n table) where
     -- Its group, its width and the number of its words are small.
@@ -56,7 +41,7 @@ module _ {n h : ℕ} {table : List ℤ} {cell : PlanCell} (p : CellPlanned n h t
     group-most = let e = ends in let m = variables-most n table a in omega arith
 
     pub width-most : cell .width ≤ 25
-    width-most = rw width-is (cell-width-most n table a h (cell .group) ends)
+    width-most = rw wide (cell-width-most n table a h (cell .group) ends)
 
     pub words-most : cell .incoming * 2 ^ cell .group ≤ 4096
     words-most =
@@ -73,7 +58,7 @@ module _ {n h : ℕ} {table : List ℤ} {cell : PlanCell} (p : CellPlanned n h t
   -- Each of its words can be read.
   pub word-ready : {classRow firstRow : List ℕ} → RowsKnown n table classRow firstRow → (k : ℕ) → k < cell .incoming * 2 ^ cell .group → WordReady n h (cell .group) k table firstRow
   unfolding cellOf
-  word-ready r k l = record { admitted = r .admitted; ends = ends; word = rw incoming-is at l; placed = r .placed }
+  word-ready r k l = record { admitted = r .admitted; ends = ends; word = rw entering at l; placed = r .placed }
 
 -- ---- the words so far
 

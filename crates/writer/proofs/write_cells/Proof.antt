@@ -23,7 +23,7 @@ loop-holds c = let a = c .before .before .before .args in no-cells (a .n) (a .ta
 
 -- What an array's place past its end would hold.
 abbrev blank : PlanCell
-blank = record { group = 0; incoming = 0; outgoing = 0; width = 0; bits = 0 }
+blank = record { group = 0; incoming = 0; outgoing = 0; width = 0; bits = 0; common = 0; uses = 0 }
 
 -- In a turn a planned cell is left.
 module _ (c : tie.In-loop Inv-loop μ-loop) where

@@ -2,14 +2,14 @@
 use Prim.Native.Nat.{ℕ, _≤_}
 use mathlib.Core.Path.{_≡_}
 use mathlib.Core.Bool.{true}
-use mathlib.Core.List.{List, map, flatMap}
+use mathlib.Core.List.{List, flatMap}
 use lib.ListN.{length, take}
 use lib.IntN.{ℤ}
 use Rattle.image.specs.Cells.{Cell}
 use Rattle.image.specs.Commands.{commandBytes, cellCommands}
 use Rattle.cascade.specs.Cascade.{cellsFrom}
 use Rattle.cascade.specs.Groupings.{cost, isGrouping}
-use Rattle.cascade.specs.Plan.{planCell}
+use Rattle.cascade.specs.Plan.{planCells}
 use Rattle.cascade.specs.Inner.Planned.{groups}
 use Rattle.cascade.specs.declared.Cell.{Cell as PlanCell}
 
@@ -25,5 +25,5 @@ cellsBytes n table sizes = flatMap cellBytes (cellsFrom n table 0 sizes)
 pub record CellsPlanned (n : ℕ) (table : List ℤ) (cells : List PlanCell) (count bits : ℕ) : Type 0 where
   pub few : count ≤ length cells
   pub grouping : isGrouping n (groups cells count) ≡ true
-  pub planned : take count cells ≡ map planCell (cellsFrom n table 0 (groups cells count))
+  pub planned : take count cells ≡ planCells n table 0 (groups cells count)
   pub total : bits ≡ cost n table (groups cells count)

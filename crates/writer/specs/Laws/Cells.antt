@@ -6,14 +6,13 @@ use native.Mathlib.Nat.{zero-add, add-zero}
 use native.Mathlib.Numerals.{add-one}
 use native.Mathlib.Omega.{arith}
 use lib.ListN.{length, getD, take, drop, length-append, length-map, take-append-drop}
-use lib.Seq.{take-suc, take-length, split-at, length-take-le, getD-at, getD-take}
+use lib.Seq.{take-suc, take-length, length-take-le, getD-take}
 use lib.IntN.{ℤ}
 use Rattle.numbers.specs.Lists.{sumOf}
 use Rattle.numbers.specs.Inner.Rows.{overwritten}
 use Rattle.numbers.specs.Laws.Lists.{getD-map}
 use Rattle.numbers.specs.Laws.Rows.{overwritten-none}
 use Rattle.numbers.specs.Laws.Selections.{flatMap-append}
-use Rattle.numbers.specs.Laws.Tallies.{sum-append}
 use Rattle.diagram.specs.Accepted.{Accepted}
 use Rattle.operands.specs.Bytes.{bigEndian}
 use Rattle.image.specs.Cells.{Cell}
@@ -24,13 +23,14 @@ use Rattle.cascade.specs.Laws.Cards.{grouping-sum}
 use Rattle.cascade.specs.Laws.Cells.{variables-most}
 use Rattle.cascade.specs.Laws.Groupings.{grouping-length}
 use Rattle.cascade.specs.Laws.Lengths.{cell-length}
+use Rattle.cascade.specs.Laws.Planned.{sum-next, sum-within, planned-at}
 use Rattle.cascade.specs.Plan.{planCell}
 use Rattle.cascade.specs.declared.Cell.{Cell as PlanCell}
 use Rattle.cascade.specs.Inner.Planned.{groups}
 use Rattle.word_writer.specs.Inner.Writing.{wordBytes, CellPlanned}
 use Rattle.writer.specs.Inner.Writing.{cellBytes, cellsBytes, CellsPlanned}
 use Rattle.numbers.specs.Laws.Written.{written-behind, length-kept}
-use Rattle.word_writer.specs.Laws.Words.{incoming-is, outgoing-is, width-is, words-are}
+use Rattle.word_writer.specs.Laws.Words.{words-are}
 
 -- ---- one cell
 
@@ -50,7 +50,7 @@ module _ {n h : ℕ} {table : List ℤ} {cell : PlanCell} (p : CellPlanned n h t
 
   -- The command in front and the words behind it are the cell.
   head-is : commandBytes (commands.Cell (cell .group) (cell .incoming) (cell .outgoing) (cell .width)) ≡ commandBytes (commands.Cell (cell .group) (cellOf n table h (cell .group) .incoming) (cellOf n table h (cell .group) .outgoing) (cellOf n table h (cell .group) .width))
-  head-is = rw (incoming-is p, outgoing-is p, width-is p)
+  head-is = rw (p .entering, p .leaving, p .wide)
 
   pub cell-written : {left right : List ℕ} (tail : List ℕ) → 7 ≤ length tail → left ≡ overwritten tail 0 (commandBytes (commands.Cell (cell .group) (cell .incoming) (cell .outgoing) (cell .width))) → right ≡ overwritten left 7 (wordBytes (cellOf n table h (cell .group) .words)) → right ≡ overwritten tail 0 (cellBytes (cellOf n table h (cell .group)))
   unfolding cellBytes cellCommands wordBytes flatMap cellOf
@@ -72,12 +72,6 @@ module _ (n : ℕ) (table : List ℤ) where
       (cells-append (h + g) left right
       ∙ ap (λ cut. cellsFrom n table (h + g) left ++ cellsFrom n table cut right) (let e : h + g + sumOf left ≡ h + (g + sumOf left) = omega arith in e))
 
-  -- A cell for each size.
-  cells-count : (h : ℕ) (sizes : List ℕ) → length (cellsFrom n table h sizes) ≡ length sizes
-  unfolding cellsFrom
-  cells-count h [] = refl
-  cells-count h (g ∷ sizes) = ap suc (cells-count (h + g) sizes)
-
   -- The first cells take no more bytes than all.
   part-within : (sizes : List ℕ) (k : ℕ) → length (cellsBytes n table (take k sizes)) ≤ length (cellsBytes n table sizes)
   unfolding cellsBytes
@@ -96,29 +90,7 @@ module _ (n : ℕ) (table : List ℤ) where
     abbrev sizeOf : ℕ
     sizeOf = getD sizes k 0
 
-    -- The sizes up to it.
-    sum-next : sumOf (take (suc k) sizes) ≡ cutOf + sizeOf
-    unfolding sumOf
-    sum-next = ap sumOf (take-suc sizes k 0 below) ∙ sum-append (take k sizes) (sizeOf ∷ []) ∙ ap (λ m. cutOf + m) (add-zero sizeOf)
-
-    sum-within : cutOf + sizeOf ≤ sumOf sizes
-    sum-within = let e = ap sumOf (sym (take-append-drop (suc k) sizes)) ∙ sum-append (take (suc k) sizes) (drop (suc k) sizes) in let s = sum-next in omega arith
-
-    -- The cells before it, it, and those behind it.
-    cells-split : cellsFrom n table 0 sizes ≡ cellsFrom n table 0 (take k sizes) ++ cellOf n table cutOf sizeOf ∷ cellsFrom n table (cutOf + sizeOf) (drop (suc k) sizes)
-    unfolding cellsFrom
-    cells-split =
-        ap (cellsFrom n table 0) (split-at sizes k 0 below)
-        ∙ cells-append 0 (take k sizes) (sizeOf ∷ drop (suc k) sizes)
-        ∙ ap (λ cut. cellsFrom n table 0 (take k sizes) ++ cellOf n table cut sizeOf ∷ cellsFrom n table (cut + sizeOf) (drop (suc k) sizes)) (zero-add cutOf)
-
-    cell-at : (d : Cell) → getD (cellsFrom n table 0 sizes) k d ≡ cellOf n table cutOf sizeOf
-    cell-at d =
-        ap (λ l. getD l k d) cells-split
-        ∙ getD-at (cellsFrom n table 0 (take k sizes)) (cellOf n table cutOf sizeOf) (cellsFrom n table (cutOf + sizeOf) (drop (suc k) sizes)) d k
-        (cells-count 0 (take k sizes) ∙ length-take-le k sizes (omega arith))
-
-    -- Their bytes, with its own.
+    -- The bytes of the cells before it, with its own.
     bytes-next : cellsBytes n table (take (suc k) sizes) ≡ cellsBytes n table (take k sizes) ++ cellBytes (cellOf n table cutOf sizeOf)
     unfolding cellsBytes cellsFrom flatMap
     bytes-next =
@@ -158,14 +130,16 @@ module _ {n : ℕ} {table : List ℤ} {cells : List PlanCell} {count bits : ℕ}
 
     -- It is the table's cell from its cut.
     pub next-planned : (h : ℕ) → h ≡ sumOf (take k (groups cells count)) → CellPlanned n h table (getD cells k d)
-    next-planned h e = record {
-      ends = let s = size-is in let w = sum-within n table (groups cells count) k inside in let g = grouping-sum n (groups cells count) grouping in omega arith;
-      planned =
-          sym (getD-take count cells k d below)
-          ∙ ap (λ l. getD l k d) planned
-          ∙ getD-map planCell (cellsFrom n table 0 (groups cells count)) k (cellOf n table 0 0) d (rw (cells-count n table 0 (groups cells count)) inside)
-          ∙ ap planCell (cell-at n table (groups cells count) k inside (cellOf n table 0 0) ∙ ap₂ (cellOf n table) (sym e) size-is);
-    }
+    unfolding planCell
+    next-planned h e =
+        let at = sym (getD-take count cells k d below) ∙ ap (λ l. getD l k d) planned ∙ planned-at n table 0 (groups cells count) k inside d in
+        let same : cellOf n table (0 + sumOf (take k (groups cells count))) (getD (groups cells count) k 0) ≡ cellOf n table h (getD cells k d .group) = ap₂ (cellOf n table) (zero-add (sumOf (take k (groups cells count))) ∙ sym e) size-is in
+        record {
+          ends = let s = size-is in let w = sum-within (groups cells count) k inside in let g = grouping-sum n (groups cells count) grouping in omega arith;
+          entering = ap (λ cell. cell .incoming) at ∙ ap (λ cell. cell .incoming) same;
+          leaving = ap (λ cell. cell .outgoing) at ∙ ap (λ cell. cell .outgoing) same;
+          wide = ap (λ cell. cell .width) at ∙ ap (λ cell. cell .width) same;
+        }
 
 -- ---- the cells so far
 
@@ -197,7 +171,7 @@ module _ (n : ℕ) (table : List ℤ) (sizes image : List ℕ) where
           let next : cellsBytes n table (take (suc k) sizes) ≡ soFar ++ cell = bytes-next n table sizes k below ∙ ap₂ (λ cut size. soFar ++ cellBytes (cellOf n table cut size)) (sym (w .cut)) is in
           rw (add-one k) (record {
             inside = omega arith;
-            cut = ap₂ (λ cut size. cut + size) (w .cut) (sym is) ∙ sym (sum-next n table sizes k below);
+            cut = ap₂ (λ cut size. cut + size) (w .cut) (sym is) ∙ sym (sum-next sizes k below);
             place = let l = ap length next ∙ length-append soFar cell in let p = w .place in omega arith;
             written =
                 let p = w .place in

@@ -10,20 +10,20 @@ use Rattle.diagram.specs.Laws.Checks.{variables-range}
 use Rattle.builder.proofs.building.record_table.Statement.{statement}
 use Rattle.builder.proofs.building.record_table.Tie as tie
 
--- The row of the numbers tried has room for all cuts.
+-- The row of the use counts has room for all cuts.
 few-places : (c : tie.Start) → length (c .args .classes .now) ≤ 8191
 unfolding mostVariables
 few-places c = let r = c .pre in rw (r .classPlaces) (places-most (c .args .n) (variables-range _ (r .admitted .variables) .1))
 
-array-borrow-prefix-tried : tie.Need-array-borrow-prefix-tried
-array-borrow-prefix-tried c = few-places (c .before .before .before .before .before .before)
+array-borrow-prefix-use-counts : tie.Need-array-borrow-prefix-use-counts
+array-borrow-prefix-use-counts c = few-places (c .before .before .before .before .before .before)
 
-slice-aggregate-class-cuts : tie.Need-slice-aggregate-class-cuts
-slice-aggregate-class-cuts c = sym (length-take-le _ _ (few-places (c .before .before .before .before .before .before .before)))
+slice-aggregate-class-table : tie.Need-slice-aggregate-class-table
+slice-aggregate-class-table c = sym (length-take-le _ _ (few-places (c .before .before .before .before .before .before .before)))
 
-class-cuts-requires : tie.Need-class-cuts-requires
+class-table-requires : tie.Need-class-table-requires
 unfolding mostVariables
-class-cuts-requires c κs =
+class-table-requires c κs =
     let s = c .before .before .before .before .before .before .before in
     let r = s .pre in
     ((record { variables = variables-range _ (r .admitted .variables) .1; whole = r .admitted .size; classPlaces = r .classPlaces; firstPlaces = r .firstPlaces }, length-take-le _ _ (few-places s) ∙ r .classPlaces), r .countPlaces)
@@ -50,9 +50,9 @@ pub record-table-spec : {M : Type 1} → statement M
 record-table-spec =
     tie.close
     (tie.spec
-    array-borrow-prefix-tried
-    slice-aggregate-class-cuts
-    class-cuts-requires
+    array-borrow-prefix-use-counts
+    slice-aggregate-class-table
+    class-table-requires
     write-records-requires
     same-length
     same-length-2

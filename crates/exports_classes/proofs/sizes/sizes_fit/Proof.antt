@@ -1,6 +1,6 @@
--- `exports_classes::sizes::sizes_fit` meets its contract: each size is tested in turn. Assumes nothing.
-use Prim.Native.Nat.{suc, _+_, _-_, _^_}
-use mathlib.Core.Path.{_≡_, sym, _∙_, ap}
+-- `exports_classes::sizes::sizes_fit` meets its contract: each size is tested in turn, then the rows. Assumes nothing.
+use Prim.Native.Nat.{_+_, _^_}
+use mathlib.Core.Path.{sym, _∙_, ap}
 use native.Mathlib.Numerals.{add-one}
 use lib.Pow.{pow-pos}
 use borrow.Author.Needs.{needs}
@@ -24,6 +24,19 @@ returns-2 c =
     let power = c .before .power .ensures in
     simp (le-leb _ _ (c .before .before .if1 .left), ne-eqb _ _ (λ e. c .if2 .taken (e ∙ sym power)))
 
+add-if3 : tie.Need-add-if3
+add-if3 c = search needs
+
+returns-3 : tie.Need-returns-3
+unfolding sizesFit mostVariables
+returns-3 c =
+    let at = c .before in
+    simp (
+      le-leb _ _ (at .before .before .if1 .left),
+      eq-eqb _ _ (at .if2 .left ∙ at .before .power .ensures),
+      ne-eqb _ _ (λ e. c .if3 .taken (e ∙ sym (add-one (at .before .before .before .args .n)))),
+    )
+
 add-power : tie.Need-add-power
 add-power c = search needs
 
@@ -31,58 +44,24 @@ power-requires-2 : tie.Need-power-requires-2
 power-requires-2 c κs = search needs
 
 sub-places : tie.Need-sub-places
-sub-places c = rw (c .power2 .ensures) (pow-pos (c .before .before .before .before .args .n + 1))
+sub-places c = rw (c .power2 .ensures) (pow-pos (c .before .before .before .before .before .args .n + 1))
 
--- The places of all blocks, and the two tests before them.
-module _ (c : tie.After-power2) where
-  abbrev start : tie.Start
-  start = c .before .before .before .before
+rows-have-requires : tie.Need-rows-have-requires
+rows-have-requires c κs = search needs
 
-  places : c .power2 .result - 1 ≡ cutPlace (suc (start .args .n))
-  unfolding cutPlace
-  places = ap (λ p. p - 1) (c .power2 .ensures ∙ ap (λ k. 2 ^ k) (add-one (start .args .n)))
-
-  values : start .args .values ≡ 2 ^ start .args .n
-  values = c .before .if2 .left ∙ c .before .before .power .ensures
-
-returns-3 : tie.Need-returns-3
-unfolding sizesFit mostVariables
-returns-3 c =
-    let at = c .before in
-    simp (le-leb _ _ (at .before .before .before .if1 .left), eq-eqb _ _ (values at), ne-eqb _ _ (λ e. c .if3 .taken (e ∙ sym (places at))))
-
+-- All tests before the rows passed.
 returns-4 : tie.Need-returns-4
-unfolding sizesFit mostVariables
+unfolding sizesFit mostVariables cutPlace
 returns-4 c =
-    let at = c .before .before in
-    simp (le-leb _ _ (at .before .before .before .if1 .left), eq-eqb _ _ (values at), eq-eqb _ _ (c .before .if3 .left ∙ places at), ne-eqb _ _ (λ e. c .if4 .taken (e ∙ sym (places at))))
-
-add-if5 : tie.Need-add-if5
-add-if5 c = search needs
-
-returns-5 : tie.Need-returns-5
-unfolding sizesFit mostVariables
-returns-5 c =
-    let at = c .before .before .before in
+    let power = c .before in
+    let at = power .before .before in
+    let n = at .before .before .before .args .n in
     simp (
-      le-leb _ _ (at .before .before .before .if1 .left),
-      eq-eqb _ _ (values at),
-      eq-eqb _ _ (c .before .before .if3 .left ∙ places at),
-      eq-eqb _ _ (c .before .if4 .left ∙ places at),
-      ne-eqb _ _ (λ e. c .if5 .taken (e ∙ sym (add-one (start at .args .n)))),
-    )
-
-returns-6 : tie.Need-returns-6
-unfolding sizesFit mostVariables
-returns-6 c =
-    let at = c .before .before .before in
-    simp (
-      le-leb _ _ (at .before .before .before .if1 .left),
-      eq-eqb _ _ (values at),
-      eq-eqb _ _ (c .before .before .if3 .left ∙ places at),
-      eq-eqb _ _ (c .before .if4 .left ∙ places at),
-      eq-eqb _ _ (c .if5 .left ∙ add-one (start at .args .n)),
-      places at,
+      le-leb _ _ (at .before .before .if1 .left),
+      eq-eqb _ _ (at .if2 .left ∙ at .before .power .ensures),
+      eq-eqb _ _ (power .before .if3 .left ∙ add-one n),
+      c .rows-have .ensures,
+      power .power2 .ensures ∙ ap (λ k. 2 ^ k) (add-one n),
     )
 
 pub sizes-fit-spec : {M : Type 1} → statement M
@@ -92,11 +71,10 @@ sizes-fit-spec =
     returns
     power-requires
     returns-2
+    add-if3
+    returns-3
     add-power
     power-requires-2
     sub-places
-    returns-3
-    returns-4
-    add-if5
-    returns-5
-    returns-6)
+    rows-have-requires
+    returns-4)

@@ -22,14 +22,15 @@ array-copy-out-top c = search needs
 -- The choice at the top cut.
 module _ (c : tie.After-choose-all) where
   abbrev start : tie.Start
-  start = c .before .before .before
+  start = c .before .before .before .before
 
-  known : ChoicesKnown (start .args .n) (start .args .counts .now) (c .choose-all .result)
+  known : ChoicesKnown (start .args .n) (start .args .counts .now) (start .args .use-counts .now) (c .choose-all .result)
   known = record {
     table = start .args .table .now;
     limit = start .args .limit;
-    admitted = start .pre .0 .admitted;
-    counted = start .pre .0 .counted;
+    admitted = start .pre .0 .0 .admitted;
+    counted = start .pre .0 .0 .counted;
+    used = start .pre .1;
     chosen = c .choose-all .ensures;
   }
 
@@ -46,7 +47,7 @@ enum-known-top : tie.Need-enum-known-top
 enum-known-top c = search needs
 
 -- Some list of sizes fits from there on.
-chosen : (c : tie.After-known-told) → let d = c .before .before .before .before in ListChosen (start d .args .n) (start d .args .counts .now) (d .choose-all .result)
+chosen : (c : tie.After-known-told) → let d = c .before .before .before .before in ListChosen (start d .args .n) (start d .args .counts .now) (start d .args .use-counts .now) (d .choose-all .result)
 unfolding known
 chosen c =
     let d = c .before .before .before .before in
@@ -65,14 +66,14 @@ returns c =
     let d = c .before .before .before .before in
     let s = start d in
     subst⁻¹ (λ (r : Planned). Plans (s .args .n) (s .args .table .now) (s .args .limit) r) (c .refused-plan .ensures)
-    (refused-plans (s .args .n) (s .args .table .now) (s .args .limit) 9 (plan-none (s .args .n) (s .args .table .now) (s .args .limit) (s .pre .0 .admitted) (s .pre .1) (sym (is-top d) ∙ c .before .enum-told .given .1)))
+    (refused-plans (s .args .n) (s .args .table .now) (s .args .limit) 9 (plan-none (s .args .n) (s .args .table .now) (s .args .limit) (s .pre .0 .0 .admitted) (s .pre .0 .1) (sym (is-top d) ∙ c .before .enum-told .given .1)))
 
 returns-2 : tie.Need-returns-2
 unfolding known chosen
 returns-2 c =
     let s = start (c .before .before .before .before .before) in
     subst⁻¹ (λ (r : Planned). Plans (s .args .n) (s .args .table .now) (s .args .limit) r) (c .list-cells .ensures)
-    (listed-plans (chosen (c .before)) (s .pre .1))
+    (listed-plans (chosen (c .before)) (s .pre .0 .1))
 
 pub plan-cuts-spec : {M : Type 1} → statement M
 plan-cuts-spec =

@@ -1,2 +1,2 @@
 -- What inner functions promise and hold.
-pub mod Counts
+pub mod Checks

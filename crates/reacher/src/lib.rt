@@ -1,10 +1,8 @@
 // Reach: the cuts that cells within an address limit arrive at, and the least limit that fits.
-mod counting;
-
 ghost use mathlib.Core.Path.{_≡_};
 ghost use Rattle.diagram.specs.Inner.Checks.{checked};
 ghost use Rattle.reach.specs.Reach.{Reaches};
-ghost use Rattle.reacher.specs.Inner.Counts.{callChecks, refusedReach};
+ghost use Rattle.reacher.specs.Inner.Checks.{callChecks, refusedReach};
 use diagram::Checked;
 use reach::Reached;
 use reach::Verdict;
@@ -55,7 +53,7 @@ pub fn reach(n: usize, table: &[i32], limit: usize) -> Reached
                 &mut counts[..cuts],
                 &mut use_counts[..places],
             );
-            counting::reach_counts(n, limit, &counts[..cuts])
+            reach_counts::reach_counts(n, limit, &counts[..cuts])
         }
     }
 }

@@ -6,7 +6,7 @@ use Rattle.numbers.specs.Answers.{accepted, unless}
 use Rattle.numbers.specs.Ranges.{isLimit}
 use Rattle.diagram.specs.Inner.Checks.{checked}
 use Rattle.diagram.specs.Laws.Builds.{passed-table}
-use Rattle.reacher.specs.Inner.Counts.{callChecks}
+use Rattle.reacher.specs.Inner.Checks.{callChecks}
 use Rattle.reacher.specs.Laws.Checks.{call-unfit, call-limited}
 use Rattle.reacher.proofs.check_call.Statement.{statement}
 use Rattle.reacher.proofs.check_call.Tie as tie

@@ -1,7 +1,7 @@
 -- `reacher::refused_reach` meets its contract. Assumes nothing.
 use mathlib.Core.Path.{refl}
 use Rattle.numbers.specs.Lists.{padded}
-use Rattle.reacher.specs.Inner.Counts.{refusedReach}
+use Rattle.reacher.specs.Inner.Checks.{refusedReach}
 use Rattle.reacher.proofs.refused_reach.Statement.{statement}
 use Rattle.reacher.proofs.refused_reach.Tie as tie
 

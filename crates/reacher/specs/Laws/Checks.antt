@@ -17,7 +17,7 @@ use Rattle.diagram.specs.Inner.Checks.{tableChecks}
 use Rattle.diagram.specs.Laws.Builds.{table-passes, after-checks}
 use Rattle.reach.specs.Reach.{Found, reach}
 use Rattle.reach.specs.Laws.Answers.{answer-tells}
-use Rattle.reacher.specs.Inner.Counts.{callChecks}
+use Rattle.reacher.specs.Inner.Checks.{callChecks}
 
 module _ (n : ℕ) (table : List ℤ) (limit : ℕ) where
   -- ---- check by check

@@ -1,18 +1,17 @@
 -- What follows from the class counts is Reach's answer.
-use Prim.Native.Nat.{ℕ, suc, _+_, _≤_, _<_}
+use Prim.Native.Nat.{ℕ, suc, _<_}
 use mathlib.Core.Path.{_≡_, sym, _∙_, ap, ap₂}
 use mathlib.Core.Bool.{true}
 use mathlib.Core.List.{List}
-use native.Mathlib.Nat.{zero-add, le-trans}
+use native.Mathlib.Nat.{le-trans}
 use native.Mathlib.Omega.{arith}
-use lib.ListN.{length, getD, set}
+use lib.ListN.{length, getD}
 use lib.Pow.{pow-mono}
 use lib.IntN.{ℤ}
 use Rattle.numbers.specs.Answers.{accepted, refused, mapAnswer}
 use Rattle.numbers.specs.Lists.{numbersFrom, padded}
 use Rattle.numbers.specs.Ranges.{isLimit, mostVariables}
-use Rattle.numbers.specs.Laws.Lists.{length-range, range-suc}
-use Rattle.numbers.specs.Laws.Padding.{set-padded}
+use Rattle.numbers.specs.Laws.Lists.{length-range}
 use Rattle.blocks.specs.Classes.{classCount, railAt}
 use Rattle.blocks.specs.Inner.Layout.{allCounts}
 use Rattle.blocks.specs.Laws.Classes.{class-count-le}
@@ -26,19 +25,8 @@ use Rattle.reach.specs.Inner.Narrowest.{furthest}
 use Rattle.reach.specs.Laws.Answers.{reach-finds}
 use Rattle.reach.specs.Laws.Narrowest.{furthest-same, widest-same}
 use Rattle.reach.specs.Laws.Reached.{oneWide, cuts-run, least-widest}
-use Rattle.reacher.specs.Inner.Counts.{narrowestIn, CountsReady, reachedIn, refusedReach}
-
--- The cuts listed so far, and one more.
-pub list-next : (h : ℕ) → h < 13 → set (padded 13 0 (numbersFrom 0 h)) h h ≡ padded 13 0 (numbersFrom 0 (suc h))
-list-next h small =
-    let many = length-range 0 h in
-    ap₂ (λ k a. set (padded 13 0 (numbersFrom 0 h)) k a) (sym many) (sym (zero-add h))
-    ∙ set-padded 0 13 (numbersFrom 0 h) (0 + h) (rw many small)
-    ∙ ap (padded 13 0) (sym (range-suc 0 h))
-
--- The count of a cut above the bottom one stands in the row.
-pub count-ready : {n : ℕ} {countRow : List ℕ} → CountsReady n countRow → (h : ℕ) → h < n → (h < length countRow) × (getD countRow h 0 ≤ 4096)
-count-ready r h l = ((let p = r .places in omega arith), r .few h l)
+use Rattle.reach_counts.specs.Inner.Counts.{narrowestIn, CountsReady, reachedIn}
+use Rattle.reacher.specs.Inner.Checks.{refusedReach}
 
 module _ (n : ℕ) (table : List ℤ) (a : Accepted n table) {countRow : List ℕ} (counted : countRow ≡ allCounts n table) where
   count-is : (h : ℕ) → h < n → getD countRow h 0 ≡ classCount n table h

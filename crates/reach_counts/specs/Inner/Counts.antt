@@ -1,16 +1,12 @@
--- Reach's checks, its answer from the class counts of all cuts, and its answer in a refusal.
+-- Reach's answer from the class counts of all cuts.
 use Prim.Native.Nat.{ℕ, suc, _+_, _≤_, _<_}
-use mathlib.Core.List.{List, []}
+use mathlib.Core.List.{List}
 use lib.ListN.{length, getD}
-use lib.IntN.{ℤ}
-use Rattle.numbers.specs.Answers.{Answer, accepted, unless}
 use Rattle.numbers.specs.Lists.{numbersFrom, padded}
-use Rattle.numbers.specs.Ranges.{isLimit}
 use Rattle.numbers.specs.Widths.{railWidth}
-use Rattle.diagram.specs.Build.{ofTable}
 use Rattle.reach.specs.Inner.Narrowest.{furthest, widestAbove}
 use Rattle.reach.specs.declared.Reached.{Reached}
-use Rattle.reach.specs.declared.Verdict.the-variants.{Cuts, Refused}
+use Rattle.reach.specs.declared.Verdict.the-variants.{Cuts}
 
 -- The address width of the cell of one variable from cut h, by a row of class counts.
 unfoldable pub narrowestIn : List ℕ → ℕ → ℕ
@@ -27,11 +23,3 @@ unfoldable pub reachedIn : ℕ → ℕ → List ℕ → Reached
 reachedIn n limit countRow =
     let last = furthest (narrowestIn countRow) limit n in
     record { verdict = Cuts (suc last) (widestAbove (narrowestIn countRow) n); cuts = padded 13 0 (numbersFrom 0 (suc last)) }
-
--- What the checks alone answer, which are Plan's.
-unfoldable pub callChecks : ℕ → List ℤ → ℕ → Answer Unit
-callChecks n table limit = ofTable n table (unless (isLimit limit) 8 (accepted tt))
-
--- The number of a refusal beside an array of 0.
-unfoldable pub refusedReach : ℕ → Reached
-refusedReach number = record { verdict = Refused number; cuts = padded 13 0 [] }

@@ -5,7 +5,7 @@ ghost use Prim.Native.Nat.{suc, _≤_, _<_};
 ghost use lib.ListN.{length, getD};
 ghost use Rattle.numbers.specs.Lists.{numbersFrom, padded};
 ghost use Rattle.reach.specs.Inner.Narrowest.{furthest, widestAbove};
-ghost use Rattle.reacher.specs.Inner.Counts.{narrowestIn, CountsReady, reachedIn};
+ghost use Rattle.reach_counts.specs.Inner.Counts.{narrowestIn, CountsReady, reachedIn};
 use reach::Reached;
 use reach::Verdict;
 
@@ -61,7 +61,7 @@ fn list_cuts(last: usize) -> [usize; 13]
 }
 
 // The cuts and the least limit.
-pub(crate) fn reach_counts(n: usize, limit: usize, counts: &[usize]) -> Reached
+pub fn reach_counts(n: usize, limit: usize, counts: &[usize]) -> Reached
     requires { ⌜ CountsReady n (now counts) ⌝ }
     ensures { λ r. ⌜ r ≡ reachedIn n limit (now (counts .entry)) ⌝ }
 {

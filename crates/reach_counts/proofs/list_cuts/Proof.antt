@@ -1,4 +1,4 @@
--- `reacher::counting::list_cuts` meets its contract. The loop's invariant: the cuts before h are listed. Assumes nothing.
+-- `reach_counts::list_cuts` meets its contract. The loop's invariant: the cuts before h are listed. Assumes nothing.
 use Prim.Native.Nat.{suc, _-_, _≤_}
 use mathlib.Core.Path.{_≡_, refl, sym, _∙_, ap}
 use native.Mathlib.Numerals.{add-one}
@@ -6,9 +6,9 @@ use native.Mathlib.Omega.{arith}
 use lib.ListN.{set}
 use mir.Facts.{fits-of-lt}
 use Rattle.numbers.specs.Lists.{numbersFrom, padded}
-use Rattle.reacher.specs.Laws.Counts.{list-next}
-use Rattle.reacher.proofs.counting.list_cuts.Statement.{statement}
-use Rattle.reacher.proofs.counting.list_cuts.Tie as tie
+use Rattle.reach_counts.specs.Laws.Counts.{list-next}
+use Rattle.reach_counts.proofs.list_cuts.Statement.{statement}
+use Rattle.reach_counts.proofs.list_cuts.Tie as tie
 
 abbrev Inv-loop : tie.InvT-loop
 Inv-loop last cuts₀ h₀ cuts h = (h ≤ suc last) × (cuts ≡ padded 13 0 (numbersFrom 0 h))

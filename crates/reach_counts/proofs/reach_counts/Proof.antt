@@ -1,13 +1,13 @@
--- `reacher::counting::reach_counts` meets its contract. Assumes nothing.
+-- `reach_counts::reach_counts` meets its contract. Assumes nothing.
 use Prim.Native.Nat.{_≤_}
 use native.Mathlib.Numerals.{add-one}
 use native.Mathlib.Omega.{arith}
 use mir.Facts.{fits-of-lt}
 use borrow.Author.Needs.{needs}
 use Rattle.reach.specs.Laws.Narrowest.{furthest-cut}
-use Rattle.reacher.specs.Inner.Counts.{reachedIn}
-use Rattle.reacher.proofs.counting.reach_counts.Statement.{statement}
-use Rattle.reacher.proofs.counting.reach_counts.Tie as tie
+use Rattle.reach_counts.specs.Inner.Counts.{reachedIn}
+use Rattle.reach_counts.proofs.reach_counts.Statement.{statement}
+use Rattle.reach_counts.proofs.reach_counts.Tie as tie
 
 furthest-cut-requires : tie.Need-furthest-cut-requires
 furthest-cut-requires c κs = search needs

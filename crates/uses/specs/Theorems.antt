@@ -27,34 +27,34 @@ use Rattle.uses.specs.Laws.Rows.{length-classes, class-of-block, uses-at
 
 -- ---- blocks given by their classes
 
-module _ (l : List ℕ) (j : ℕ) (below : j < length l) where
+module _ (classes : List ℕ) (j : ℕ) (below : j < length classes) where
   -- The block itself is counted: one more than have its class before it,
-  pub block-included : usesAt l j ≡ 1 + useCount (take j l) (getD l j 0)
-  block-included = uses-include l j below ∙ (let t = useCount (take j l) (getD l j 0) in let e : suc t ≡ 1 + t = omega arith in e)
+  pub block-included : usesAt classes j ≡ 1 + useCount (take j classes) (getD classes j 0)
+  block-included = uses-include classes j below ∙ (let t = useCount (take j classes) (getD classes j 0) in let e : suc t ≡ 1 + t = omega arith in e)
 
   -- so 1 at the first block of a class,
-  pub first-use : ((before : ℕ) → before < j → getD l j 0 ≡ getD l before 0 → ⊥) → usesAt l j ≡ 1
+  pub first-use : ((before : ℕ) → before < j → getD classes j 0 ≡ getD classes before 0 → ⊥) → usesAt classes j ≡ 1
   first-use none =
-      uses-include l j below
-      ∙ ap suc (unused (getD l j 0) (take j l) (λ i m e. let i-below : i < j = (let t = length-take-le j l (omega arith) in omega arith) in none i i-below (e ∙ getD-take j l i 0 i-below)))
+      uses-include classes j below
+      ∙ ap suc (unused (getD classes j 0) (take j classes) (λ i m e. let i-below : i < j = (let t = length-take-le j classes (omega arith) in omega arith) in none i i-below (e ∙ getD-take j classes i 0 i-below)))
 
   -- and at the last one its use count.
-  pub last-use : ((behind : ℕ) → j < behind → behind < length l → getD l j 0 ≡ getD l behind 0 → ⊥) → usesAt l j ≡ useCount l (getD l j 0)
+  pub last-use : ((behind : ℕ) → j < behind → behind < length classes → getD classes j 0 ≡ getD classes behind 0 → ⊥) → usesAt classes j ≡ useCount classes (getD classes j 0)
   unfolding usesAt useCount
   last-use none =
-      (let t = useCount (take (suc j) l) (getD l j 0) in let e : t ≡ t + 0 = omega arith in e)
-      ∙ ap (λ more. useCount (take (suc j) l) (getD l j 0) + more)
-      (sym (unused (getD l j 0) (drop (suc j) l) (λ i m e. let inside : i < length l - suc j = rw length-drop at m in none (suc j + i) (omega arith) (omega arith) (e ∙ getD-drop (suc j) l i 0))))
-      ∙ sym (tally-append (eqb (getD l j 0)) (take (suc j) l) (drop (suc j) l))
-      ∙ ap (λ all. useCount all (getD l j 0)) (take-append-drop (suc j) l)
+      (let t = useCount (take (suc j) classes) (getD classes j 0) in let e : t ≡ t + 0 = omega arith in e)
+      ∙ ap (λ more. useCount (take (suc j) classes) (getD classes j 0) + more)
+      (sym (unused (getD classes j 0) (drop (suc j) classes) (λ i m e. let inside : i < length classes - suc j = rw length-drop at m in none (suc j + i) (omega arith) (omega arith) (e ∙ getD-drop (suc j) classes i 0))))
+      ∙ sym (tally-append (eqb (getD classes j 0)) (take (suc j) classes) (drop (suc j) classes))
+      ∙ ap (λ all. useCount all (getD classes j 0)) (take-append-drop (suc j) classes)
 
 -- The class of a block is used.
-pub some-use : (l : List ℕ) (j : ℕ) → j < length l → 0 < useCount l (getD l j 0)
+pub some-use : (classes : List ℕ) (j : ℕ) → j < length classes → 0 < useCount classes (getD classes j 0)
 unfolding useCount
-some-use l j below = used (ℕ-discrete (useCount l (getD l j 0)) 0)
+some-use classes j below = used (ℕ-discrete (useCount classes (getD classes j 0)) 0)
   where
-    used : Dec (useCount l (getD l j 0) ≡ 0) → 0 < useCount l (getD l j 0)
-    used (yes none) = absurd (true≢false (sym (eq-eqb (getD l j 0) (getD l j 0) refl) ∙ none-passes (eqb (getD l j 0)) 0 l none j below))
+    used : Dec (useCount classes (getD classes j 0) ≡ 0) → 0 < useCount classes (getD classes j 0)
+    used (yes none) = absurd (true≢false (sym (eq-eqb (getD classes j 0) (getD classes j 0) refl) ∙ none-passes (eqb (getD classes j 0)) 0 classes none j below))
     used (no some) = omega arith
 
 -- ---- a cut

@@ -6,7 +6,7 @@ use native.Mathlib.Nat.{zero-add}
 use native.Mathlib.Numerals.{add-one}
 use native.Mathlib.Omega.{arith}
 use lib.ListN.{length, take, set, length-set}
-use lib.Seq.{take-length, take-suc-set}
+use lib.Seq.{take-suc-set}
 use lib.IntN.{ℤ}
 use Rattle.numbers.specs.Lists.{numbersFrom}
 use Rattle.numbers.specs.Inner.Rows.{overwritten}
@@ -21,6 +21,7 @@ use Rattle.tries.specs.Laws.Rows.{length-cut-tries}
 use Rattle.uses.specs.Uses.{cutUses}
 use Rattle.uses.specs.Inner.Rows.{cutUseRow, allUses, allUseRows}
 use Rattle.uses.specs.Laws.Rows.{length-cut-uses, length-cut-use-row}
+use Rattle.cuts.specs.Laws.Noting.{all-noted}
 use Rattle.classes.specs.Inner.Placing.{CutPlaced}
 use Rattle.classes.specs.Inner.Searched.{SearchRoom, AllSearched}
 use Rattle.blocks.specs.Laws.Cuts.{length-cut-numbers, length-cut-firsts, cut-end, cut-within}
@@ -95,21 +96,18 @@ module _ (n : ℕ) (table : List ℤ) (h : ℕ) (classRow firstRow countRow trie
       })
 
 -- When all cuts are classed, the rows are whole.
-whole : (row new : List ℕ) (places : ℕ) → length row ≡ places → take places row ≡ new → row ≡ new
-whole row new places e t = sym (ap (λ k. take k row) (sym e) ∙ take-length row) ∙ t
-
 pub cuts-done : (n : ℕ) (table : List ℤ) (classRow firstRow countRow triedRow usesRow useCountRow : List ℕ) → CutsSoFar n table (suc n) classRow firstRow countRow triedRow usesRow useCountRow
     → AllClassed n table classRow firstRow countRow × AllSearched n table triedRow usesRow useCountRow
 unfolding allNumbers allFirsts allCounts allTries allUses allUseRows
 cuts-done n table classRow firstRow countRow triedRow usesRow useCountRow s = (
   record {
-    numbered = whole classRow _ _ (s .rows .classPlaces) (s .numbered);
-    placed = whole firstRow _ _ (s .rows .firstPlaces) (s .placed);
-    counted = whole countRow _ _ (s .countPlaces) (s .counted);
+    numbered = all-noted classRow _ _ (s .rows .classPlaces) (s .numbered);
+    placed = all-noted firstRow _ _ (s .rows .firstPlaces) (s .placed);
+    counted = all-noted countRow _ _ (s .countPlaces) (s .counted);
   },
   record {
-    tried = whole triedRow _ _ (s .searches .triedPlaces) (s .tried);
-    used = whole usesRow _ _ (s .searches .usesPlaces) (s .used);
-    useCounted = whole useCountRow _ _ (s .searches .useCountPlaces) (s .useCounted);
+    tried = all-noted triedRow _ _ (s .searches .triedPlaces) (s .tried);
+    used = all-noted usesRow _ _ (s .searches .usesPlaces) (s .used);
+    useCounted = all-noted useCountRow _ _ (s .searches .useCountPlaces) (s .useCounted);
   },
 )

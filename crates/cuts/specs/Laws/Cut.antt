@@ -214,7 +214,7 @@ cut-done table size count rows s =
       counted = a .0;
       numbered = a .1 .0;
       placed = a .1 .1 ∙ ap (λ n. firstsOf n ds) l;
-      used = all-noted (usesAt (numbersOf ds)) (rows .usesRow) (length (numbersOf ds)) (s .usesPlaces ∙ sym many) (subst (λ n. take n (rows .usesRow) ≡ map (usesAt (numbersOf ds)) (numbersFrom 0 n)) (sym many) (s .used));
+      used = all-noted (rows .usesRow) _ (length (numbersOf ds)) (s .usesPlaces ∙ sym many) (subst (λ n. take n (rows .usesRow) ≡ map (usesAt (numbersOf ds)) (numbersFrom 0 n)) (sym many) (s .used));
       useCounted = all-counted ds (rows .useCountRow) (s .useCountPlaces ∙ sym l) (λ class inside. s .useCounted class (rw l at inside) ∙ ap (λ n. useCount (take n (numbersOf ds)) class) (sym l));
       tried = all-tried ds (rows .triedRow) (s .triedPlaces ∙ sym l) (subst (λ n. take n (rows .triedRow) ≡ map (triedAt ds) (numbersFrom 0 n)) (sym l) (s .tried));
     }

@@ -55,4 +55,4 @@ module _ (ds : List (List ℤ)) (numbers firsts : List ℕ) where
 -- When all lists are classed, the row is whole.
 pub all-tried : (ds : List (List ℤ)) (tries : List ℕ) → length tries ≡ length ds → take (length ds) tries ≡ map (triedAt ds) (numbersFrom 0 (length ds)) → tries ≡ triesOf ds
 unfolding triesOf
-all-tried ds tries e t = all-noted (triedAt ds) tries (length ds) e t
+all-tried ds tries e t = all-noted tries _ (length ds) e t

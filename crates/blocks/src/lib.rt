@@ -20,7 +20,7 @@ pub fn in_cut(row: &[usize], h: usize, k: usize) -> usize
     requires { ⌜ (h < 64) × (cutPlace h + k < length (now row)) ⌝ }
     ensures { λ r. ⌜ r ≡ getD (now (row .entry)) (cutPlace h + k) 0 ⌝ }
 {
-    row[numbers::power(h) - 1 + k]
+    row[arithmetic::power(h) - 1 + k]
 }
 
 // The first value of block j of height i.
@@ -28,5 +28,5 @@ pub fn first_of_block(table: &[i32], i: usize, j: usize) -> i32
     requires { ⌜ (i < 64) × (j * 2 ^ i < length (now table)) ⌝ }
     ensures { λ r. ⌜ r ≡ first (block (now (table .entry)) i j) ⌝ }
 {
-    table[j * numbers::power(i)]
+    table[j * arithmetic::power(i)]
 }

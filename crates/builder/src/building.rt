@@ -70,7 +70,7 @@ pub(crate) fn build_checked(n: usize, table: &[i32], nodes: &mut [i32]) -> Built
     let mut firsts = [0usize; 8191];
     let mut counts = [0usize; 13];
     let cuts = n + 1;
-    let size = numbers::power(cuts) - 1;
+    let size = arithmetic::power(cuts) - 1;
     let made = record_table(
         n,
         table,

@@ -26,7 +26,7 @@ pub fn size_at(row: &[i32], at: usize) -> usize
     ensures { λ r. ⌜ r ≡ sizeAt (now (row .entry)) at ⌝ }
     ensures { λ r. ⌜ r < 4294967296 ⌝ }
 {
-    numbers::magnitude(number_at(row, at, 0)) as usize
+    arithmetic::magnitude(number_at(row, at, 0)) as usize
 }
 
 // Whether the number at a place, or the one past the last, is this one.
@@ -107,7 +107,7 @@ pub fn put_bytes(bytes: &mut [u8], row: &[i32])
 {
     let mut i = 0;
     while i < row.len() {
-        bytes[i] = (numbers::magnitude(row[i]) % 256) as u8;
+        bytes[i] = (arithmetic::magnitude(row[i]) % 256) as u8;
         i += 1;
     }
 }

@@ -23,8 +23,8 @@ fn class_cut_at(
     requires { ⌜ h ≤ n ⌝ }
     ensures { λ r. ⌜ CutPlaced n (now (table .entry)) h (now (classes .entry)) (now (firsts .entry)) (now (tried .entry)) (now (uses .entry)) (now («use_counts» .entry)) r (now (classes .exit)) (now (firsts .exit)) (now (tried .exit)) (now (uses .exit)) (now («use_counts» .exit)) ⌝ }
 {
-    let count = numbers::power(h);
-    let size = numbers::power(n - h);
+    let count = arithmetic::power(h);
+    let size = arithmetic::power(n - h);
     let start = count - 1;
     let end = start + count;
     cuts::class_cut(

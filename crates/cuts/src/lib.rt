@@ -1,76 +1,9 @@
 // The classes of one cut: the class of each block, one after the other, the first block of each class, how many classes were tried
 // for each block, how many blocks up to and including it have its class, and how many have each class.
 ghost use mathlib.Core.Path.{_≡_};
-ghost use Prim.Native.Nat.{_≤_, _<_};
 ghost use lib.ListN.{length};
-ghost use Rattle.cuts.specs.Inner.Classing.{latestClass, cutRows, BlockRoom, blockClassed, HalvesRoom, halvesClassed, CutRoom, CutClassed, countNoted, firstsNoted, usesNoted};
-
-// The first block of a new class is noted behind those known, in a row of one place for each block so far.
-fn note_first(firsts: &mut [usize], count: usize, j: usize, class: usize) -> usize
-    requires { ⌜ (count ≤ j) × (j < length (now firsts)) ⌝ }
-    ensures { λ r. ⌜ (r ≡ countNoted count class) × (now (firsts .exit) ≡ firstsNoted (now (firsts .entry)) count j class) ⌝ }
-{
-    firsts[j] = 0;
-    if class == count {
-        firsts[count] = j;
-        return count + 1;
-    }
-    count
-}
-
-// The uses of a class are noted, in a row of one place for each block so far.
-fn note_uses(use_counts: &mut [usize], j: usize, class: usize, uses: usize)
-    requires { ⌜ (class ≤ j) × (j < length (now «use_counts»)) ⌝ }
-    ensures { λ r. ⌜ now («use_counts» .exit) ≡ usesNoted (now («use_counts» .entry)) j class uses ⌝ }
-{
-    use_counts[j] = 0;
-    use_counts[class] = uses;
-}
-
-// The latest class at block j: that of the block just before, and 0 at the first block, where no class is known.
-fn latest_class(classes: &[usize], j: usize) -> usize
-    requires { ⌜ j ≤ length (now classes) ⌝ }
-    ensures { λ r. ⌜ r ≡ latestClass (now (classes .entry)) j ⌝ }
-{
-    if j == 0 {
-        return 0;
-    }
-    classes[j - 1]
-}
-
-// A block is classed: its class, how many were tried and how many blocks have it are noted, and the block as the first of its class
-// where that is new.
-fn class_block(
-    table: &[i32],
-    size: usize,
-    j: usize,
-    values: &[i32],
-    count: usize,
-    classes: &mut [usize],
-    firsts: &mut [usize],
-    tried: &mut [usize],
-    uses: &mut [usize],
-    use_counts: &mut [usize],
-) -> usize
-    requires { ⌜ BlockRoom (now table) size j (cutRows count (now classes) (now firsts) (now tried) (now uses) (now «use_counts»)) ⌝ }
-    ensures { λ r. ⌜ cutRows r (now (classes .exit)) (now (firsts .exit)) (now (tried .exit)) (now (uses .exit)) (now («use_counts» .exit)) ≡ blockClassed (now (table .entry)) size j (now (values .entry)) (cutRows count (now (classes .entry)) (now (firsts .entry)) (now (tried .entry)) (now (uses .entry)) (now («use_counts» .entry))) ⌝ }
-{
-    let latest = latest_class(classes, j);
-    let found = search::find_class(
-        table,
-        size,
-        &firsts[..count],
-        &use_counts[..count],
-        latest,
-        values,
-    );
-    let known = note_first(firsts, count, j, found.class);
-    classes[j] = found.class;
-    tried[j] = found.tried;
-    uses[j] = found.uses;
-    note_uses(use_counts, j, found.class, found.uses);
-    known
-}
+ghost use Rattle.classing.specs.Inner.Block.{cutRows};
+ghost use Rattle.cuts.specs.Inner.Classing.{HalvesRoom, halvesClassed, CutRoom, CutClassed};
 
 // The halves of block j of the cut above are classed, the upper half being the part that begins in the block's middle.
 fn class_halves(
@@ -91,7 +24,7 @@ fn class_halves(
     let middle = above.len() / 2;
     let lower = &above[..middle];
     let upper = &above[middle..];
-    let known = class_block(
+    let known = classing::class_block(
         table,
         size,
         2 * j,
@@ -103,7 +36,7 @@ fn class_halves(
         uses,
         use_counts,
     );
-    class_block(
+    classing::class_block(
         table,
         size,
         2 * j + 1,
@@ -169,7 +102,7 @@ pub fn class_cut(
     ensures { λ r. ⌜ CutClassed (now (table .entry)) size (length (now (classes .entry))) (cutRows r (now (classes .exit)) (now (firsts .exit)) (now (tried .exit)) (now (uses .exit)) (now («use_counts» .exit))) ⌝ }
 {
     if classes.len() == 1 {
-        return class_block(
+        return classing::class_block(
             table,
             size,
             0,

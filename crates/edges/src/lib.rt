@@ -45,5 +45,5 @@ pub fn edges_fit(n: usize, records: &[i32], k: usize) -> bool
     if !child_fits(records, k, records::number_at(records, k, 2)) {
         return false;
     }
-    numbers::is_within(-16777215, 16777215, records::number_at(records, k, 3))
+    arithmetic::is_within(-16777215, 16777215, records::number_at(records, k, 3))
 }

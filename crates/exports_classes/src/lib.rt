@@ -1,26 +1,7 @@
-// Widths and classes through C. No function here requires anything of its caller; rows of wrong sizes are left as they were.
+// Classes through C. Nothing is required of the caller; rows of wrong sizes are left as they were.
 mod sizes;
 
-ghost use mathlib.Core.Path.{_≡_};
-ghost use mathlib.Core.List.{[], _∷_};
-ghost use Rattle.numbers.specs.Widths.{railWidth, weightWidth};
 ghost use Rattle.exports_classes.specs.Classing.{Classed};
-
-// The rail width of so many classes.
-#[no_mangle]
-pub extern "C" fn panstrait_rail_width(count: u32) -> usize
-    ensures { λ r. ⌜ r ≡ railWidth count ⌝ }
-{
-    widths::rail_width(count)
-}
-
-// The weight width of a cell, from its least and its greatest weight.
-#[no_mangle]
-pub extern "C" fn panstrait_weight_width(least: i32, greatest: i32) -> usize
-    ensures { λ r. ⌜ r ≡ weightWidth (least ∷ greatest ∷ []) ⌝ }
-{
-    widths::weight_width(least, greatest)
-}
 
 // The classes of all cuts: each block's class, each class's first block, the class count of each cut, how many classes were tried for
 // each block, how many blocks up to and including it have its class, and how many have each class.

@@ -47,12 +47,12 @@ pub(crate) fn sizes_fit(
     if 12 < n {
         return false;
     }
-    if values != numbers::power(n) {
+    if values != arithmetic::power(n) {
         return false;
     }
     if cuts != n + 1 {
         return false;
     }
-    let places = numbers::power(n + 1) - 1;
+    let places = arithmetic::power(n + 1) - 1;
     rows_have(places, classes, firsts, tried, uses, use_counts)
 }

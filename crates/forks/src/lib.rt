@@ -27,7 +27,7 @@ fn block_branches(table: &[i32], i: usize, j: usize) -> bool
     requires { ⌜ (i < 63) × (j * 2 ^ suc i + 2 ^ suc i ≤ length (now table)) ⌝ }
     ensures { λ r. ⌜ r ≡ branches i (block (now (table .entry)) (suc i) j) ⌝ }
 {
-    let size = numbers::power(i + 1);
+    let size = arithmetic::power(i + 1);
     let start = j * size;
     let end = start + size;
     !comparing::same_halves(&table[start..end])

@@ -21,11 +21,11 @@ pub fn heading(text: &[u8], at: usize, low: i32, high: i32) -> Heading
             if line != 1 {
                 return Heading::Missing;
             }
-            if !numbers::is_within(low, high, number) {
+            if !arithmetic::is_within(low, high, number) {
                 return Heading::Missing;
             }
             Heading::Found {
-                number: numbers::magnitude(number) as usize,
+                number: arithmetic::magnitude(number) as usize,
                 at: next,
             }
         }

@@ -17,7 +17,7 @@ fn list_values(input: &[u8], n: usize, limit: usize, values: &mut [i32], text: &
     ensures { λ r. ⌜ Writes (now (text .entry)) 0 (answerText n (tableOf (now (input .entry))) (plan n (tableOf (now (input .entry))) limit)) r (now (text .exit)) ⌝ }
     ensures { λ _. ⌜ now (values .exit) ≡ overwritten (now (values .entry)) 0 (tableOf (now (input .entry))) ⌝ }
 {
-    let count = numbers::power(n);
+    let count = arithmetic::power(n);
     listing::input::read_values(input, &mut values[..count]);
     tables::list_table(n, &values[..count], limit, text)
 }
@@ -35,7 +35,7 @@ pub fn list_input(input: &[u8], text: &mut [u8]) -> usize
     if !listing::input::is_listed(n) {
         return fields::write_refusal(text, 1);
     }
-    let count = numbers::power(n);
+    let count = arithmetic::power(n);
     if input.len() != 2 + 4 * count {
         return fields::write_refusal(text, 2);
     }

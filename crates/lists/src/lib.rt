@@ -53,10 +53,10 @@ fn list_fits(n: usize, records: &[i32]) -> bool
 pub fn check_list(n: usize, offset: i32, records: &[i32]) -> Checked
     ensures { λ r. ⌜ checked r ≡ listChecks n offset (now (records .entry)) ⌝ }
 {
-    if !numbers::is_variables(n) {
+    if !arithmetic::is_variables(n) {
         return Checked::Refused(1);
     }
-    if !numbers::is_within(-8388608, 8388607, offset) {
+    if !arithmetic::is_within(-8388608, 8388607, offset) {
         return Checked::Refused(5);
     }
     if !list_fits(n, records) {

@@ -31,8 +31,8 @@ fn range_from(records: &[i32], k: usize) -> Range
     let high = range_at(records, records::number_at(records, k, 2) as usize);
     let weight = records::number_at(records, k, 3);
     Range {
-        least: numbers::lesser_of(low.least, weight + high.least),
-        greatest: numbers::greater_of(low.greatest, weight + high.greatest),
+        least: arithmetic::lesser_of(low.least, weight + high.least),
+        greatest: arithmetic::greater_of(low.greatest, weight + high.greatest),
     }
 }
 

@@ -11,10 +11,10 @@ use image::Place;
 pub fn table_keeps(n: usize, offset: i32) -> bool
     ensures { λ r. ⌜ r ≡ (isVariables n && isValue offset) ⌝ }
 {
-    if !numbers::is_variables(n) {
+    if !arithmetic::is_variables(n) {
         return false;
     }
-    numbers::is_within(-8388608, 8388607, offset)
+    arithmetic::is_within(-8388608, 8388607, offset)
 }
 
 // The rules of a cell but that of its width, which is judged after its last word.
@@ -57,5 +57,5 @@ pub fn word_keeps(place: Place, class: usize, weight: i32) -> bool
             return false;
         }
     }
-    numbers::is_within(-16777215, 16777215, weight)
+    arithmetic::is_within(-16777215, 16777215, weight)
 }

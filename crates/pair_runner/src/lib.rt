@@ -23,7 +23,7 @@ fn is_pair(m: usize, x: usize, y: usize) -> bool
     requires { ⌜ isPairBits m ≡ true ⌝ }
     ensures { λ r. ⌜ r ≡ isPair m x y ⌝ }
 {
-    let side = numbers::power(m);
+    let side = arithmetic::power(m);
     if side <= x {
         return false;
     }
@@ -34,7 +34,7 @@ fn pair_index(m: usize, x: usize, y: usize) -> usize
     requires { ⌜ (isPairBits m ≡ true) × (isPair m x y ≡ true) ⌝ }
     ensures { λ r. ⌜ r ≡ pairIndex m x y ⌝ }
 {
-    numbers::power(m) * x + y
+    arithmetic::power(m) * x + y
 }
 
 // The pair run: m, then the image, then X and Y; else Run's answer at the pair's index.

@@ -23,7 +23,7 @@ fn parse_body(text: &[u8], at: usize, n: usize, limit: usize, input: &mut [u8]) 
         };
     }
     let mut row = [0i32; 4096];
-    let count = numbers::power(n);
+    let count = arithmetic::power(n);
     match values::read_values(text, Place { at, line: 1 }, count, &mut row) {
         Checked::Wrong { line, expected } => Parsed::Wrong { line, expected },
         Checked::Good => {

@@ -72,8 +72,8 @@ fn after_word(place: Place, class: usize, weight: i32) -> Place
         words: place.words - 1,
         group: place.group,
         width: place.width,
-        least: numbers::lesser_of(place.least, weight),
-        greatest: numbers::greater_of(place.greatest, weight),
+        least: arithmetic::lesser_of(place.least, weight),
+        greatest: arithmetic::greater_of(place.greatest, weight),
         bits: place.bits,
     }
 }

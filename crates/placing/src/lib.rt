@@ -85,7 +85,7 @@ pub fn place_table(
     ensures { λ r. ⌜ Places n (now (table .entry)) (groups cells count) (now (image .entry)) r (now (image .exit)) ⌝ }
 {
     let cuts = n + 1;
-    let places = numbers::power(cuts) - 1;
+    let places = arithmetic::power(cuts) - 1;
     place_image(
         n,
         cells,

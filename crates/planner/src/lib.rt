@@ -21,7 +21,7 @@ pub fn plan_in(
     match tables::check_table(n, table) {
         diagram::Checked::Refused(number) => planning::refused_plan(number),
         diagram::Checked::Passed => {
-            if !numbers::is_limit(limit) {
+            if !arithmetic::is_limit(limit) {
                 return planning::refused_plan(8);
             }
             planning::plan_rows(n, table, limit, classes, firsts, counts)

@@ -89,7 +89,7 @@ pub(crate) fn plan_rows(
     ensures { λ r. ⌜ RowsFilled n (now (table .entry)) (now (classes .entry)) (now (firsts .entry)) (now (counts .entry)) (now (classes .exit)) (now (firsts .exit)) (now (counts .exit)) ⌝ }
 {
     let cuts = n + 1;
-    let places = numbers::power(cuts) - 1;
+    let places = arithmetic::power(cuts) - 1;
     plan_table(
         n,
         table,

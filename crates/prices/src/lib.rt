@@ -31,8 +31,8 @@ fn class_extremes(
     requires { ⌜ gathered ≡ extremesOf n (now table) h g (class * 2 ^ g) ⌝ }
     ensures { λ r. ⌜ r ≡ extremesOf n (now (table .entry)) h g (class * 2 ^ g + 2 ^ g) ⌝ }
 {
-    let size = numbers::power(n - h);
-    let step = numbers::power(n - (h + g));
+    let size = arithmetic::power(n - h);
+    let step = arithmetic::power(n - (h + g));
     let start = blocks::in_cut(firsts, h, class) * size;
     let end = start + size;
     let from = table[start];
@@ -41,8 +41,8 @@ fn class_extremes(
     let mut place = start;
     while place < end {
         let weight = table[place] - from;
-        least = numbers::lesser_of(least, weight);
-        greatest = numbers::greater_of(greatest, weight);
+        least = arithmetic::lesser_of(least, weight);
+        greatest = arithmetic::greater_of(greatest, weight);
         place += step;
     }
     Extremes { least, greatest }

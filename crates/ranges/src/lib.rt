@@ -20,8 +20,8 @@ fn range_of(values: &[i32]) -> Range
     let mut x = 1;
     while x < values.len() {
         let difference = values[x] - from;
-        least = numbers::lesser_of(least, difference);
-        greatest = numbers::greater_of(greatest, difference);
+        least = arithmetic::lesser_of(least, difference);
+        greatest = arithmetic::greater_of(greatest, difference);
         x += 1;
     }
     Range { least, greatest }
@@ -32,7 +32,7 @@ pub fn class_range(n: usize, h: usize, c: usize, table: &[i32], firsts: &[usize]
     requires { ⌜ ClassOfCut n h c (now table) (now firsts) ⌝ }
     ensures { λ r. ⌜ r ≡ rangeOf (classAt n (now (table .entry)) h c) ⌝ }
 {
-    let size = numbers::power(n - h);
+    let size = arithmetic::power(n - h);
     let start = blocks::in_cut(firsts, h, c) * size;
     let end = start + size;
     range_of(&table[start..end])

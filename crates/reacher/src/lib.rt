@@ -24,7 +24,7 @@ fn check_call(n: usize, table: &[i32], limit: usize) -> Checked
     match tables::check_table(n, table) {
         Checked::Refused(number) => Checked::Refused(number),
         Checked::Passed => {
-            if !numbers::is_limit(limit) {
+            if !arithmetic::is_limit(limit) {
                 return Checked::Refused(8);
             }
             Checked::Passed
@@ -44,7 +44,7 @@ pub fn reach(n: usize, table: &[i32], limit: usize) -> Reached
         Checked::Refused(number) => refused_reach(number),
         Checked::Passed => {
             let cuts = n + 1;
-            let places = numbers::power(cuts) - 1;
+            let places = arithmetic::power(cuts) - 1;
             classes::class_table(
                 n,
                 table,

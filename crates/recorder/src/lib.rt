@@ -10,7 +10,7 @@ fn set_in_cut(row: &mut [usize], h: usize, k: usize, number: usize)
     requires { ⌜ (h < 64) × (cutPlace h + k < length (now row)) ⌝ }
     ensures { λ _. ⌜ now (row .exit) ≡ set (now (row .entry)) (cutPlace h + k) number ⌝ }
 {
-    let place = numbers::power(h) - 1 + k;
+    let place = arithmetic::power(h) - 1 + k;
     row[place] = number;
 }
 

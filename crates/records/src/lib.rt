@@ -16,7 +16,7 @@ pub fn node_room(n: usize) -> usize
     requires { ⌜ n ≤ 12 ⌝ }
     ensures { λ r. ⌜ r ≡ nodeRoom n ⌝ }
 {
-    RECORD_SIZE * (numbers::power(n) - 1)
+    RECORD_SIZE * (arithmetic::power(n) - 1)
 }
 
 // Number c, from 0, of record k, from 1.

@@ -16,7 +16,7 @@ fn is_part(n: usize, a: usize, b: usize) -> bool
     if b < a {
         return false;
     }
-    b < numbers::power(n)
+    b < arithmetic::power(n)
 }
 
 // The figures of the values at X from a to b.
@@ -34,8 +34,8 @@ fn figures(n: usize, offset: i32, records: &[i32], a: usize, b: usize) -> Report
         top = tops::next_top(n, offset, records, x, top);
         x += 1;
         let value = tops::value_below(n, records, top, x);
-        least = numbers::lesser_of(least, value);
-        greatest = numbers::greater_of(greatest, value);
+        least = arithmetic::lesser_of(least, value);
+        greatest = arithmetic::greater_of(greatest, value);
         sum += value as i64;
     }
     Reported::Report {

@@ -30,7 +30,7 @@ pub fn write_sums(weights: &[i32], table: &mut [i32])
     table[0] = 0;
     let mut j = 0;
     while j < weights.len() {
-        add_weight(table, numbers::power(j), weights[j]);
+        add_weight(table, arithmetic::power(j), weights[j]);
         j += 1;
     }
 }
@@ -50,7 +50,7 @@ pub fn reduce(q: usize, table: &mut [i32])
     requires { ⌜ q ≤ 11 ⌝ }
     ensures { λ r. ⌜ now (table .exit) ≡ map (λ z. pos (remainderBy (2 ^ q) z)) (now (table .entry)) ⌝ }
 {
-    let modulus = numbers::power(q) as u32;
+    let modulus = arithmetic::power(q) as u32;
     let mut x = 0;
     while x < table.len() {
         let value = remainder_of(table[x], modulus);

@@ -12,7 +12,7 @@ fn sum_weighted(n: usize, weights: &[i32], table: &mut [i32]) -> Summed
     if !weight_lists::sums_fit(weights) {
         return Summed::Refused(18);
     }
-    if table.len() != numbers::power(n) {
+    if table.len() != arithmetic::power(n) {
         return Summed::Refused(2);
     }
     sum_tables::write_sums(weights, table);
@@ -37,7 +37,7 @@ fn remainder_weighted(n: usize, weights: &[i32], q: usize, table: &mut [i32]) ->
     if !weight_lists::is_remainder_bits(q) {
         return Summed::Refused(19);
     }
-    if table.len() != numbers::power(n) {
+    if table.len() != arithmetic::power(n) {
         return Summed::Refused(2);
     }
     sum_tables::write_sums(weights, table);

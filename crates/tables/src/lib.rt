@@ -14,7 +14,7 @@ fn value_fits(table: &[i32], x: usize) -> bool
     requires { ⌜ x < length (now table) ⌝ }
     ensures { λ r. ⌜ r ≡ isValue (getD (now (table .entry)) x (pos 0)) ⌝ }
 {
-    numbers::is_within(-8388608, 8388607, table[x])
+    arithmetic::is_within(-8388608, 8388607, table[x])
 }
 
 // Whether every value is; a weight list is judged so too.
@@ -35,10 +35,10 @@ pub fn values_fit(table: &[i32]) -> bool
 pub fn check_table(n: usize, table: &[i32]) -> Checked
     ensures { λ r. ⌜ checked r ≡ tableChecks n (now (table .entry)) ⌝ }
 {
-    if !numbers::is_variables(n) {
+    if !arithmetic::is_variables(n) {
         return Checked::Refused(1);
     }
-    if table.len() != numbers::power(n) {
+    if table.len() != arithmetic::power(n) {
         return Checked::Refused(2);
     }
     if !values_fit(table) {

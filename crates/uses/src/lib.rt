@@ -34,7 +34,7 @@ pub fn commonest_of_cut(use_counts: &[usize], h: usize, count: usize) -> Common
     requires { ⌜ (h < 64) × (cutPlace h + count ≤ length (now «use_counts»)) ⌝ }
     ensures { λ r. ⌜ r ≡ commonest (inCut (now («use_counts» .entry)) h count) ⌝ }
 {
-    let start = numbers::power(h) - 1;
+    let start = arithmetic::power(h) - 1;
     let end = start + count;
     commonest(&use_counts[start..end])
 }

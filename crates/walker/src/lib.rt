@@ -19,7 +19,7 @@ fn walk_checked(n: usize, offset: i32, records: &[i32], x: usize) -> Walked
     requires { ⌜ Passing n offset (now records) ⌝ }
     ensures { λ r. ⌜ walked r ≡ walk n offset (now (records .entry)) x ⌝ }
 {
-    if x >= numbers::power(n) {
+    if x >= arithmetic::power(n) {
         return Walked::Refused(7);
     }
     Walked::Value(walk_value(n, offset, records, x))

@@ -12,7 +12,7 @@ use diagram::Checked;
 pub fn check_weights(n: usize, weights: &[i32]) -> Checked
     ensures { λ r. ⌜ checked r ≡ weightChecks n (now (weights .entry)) ⌝ }
 {
-    if !numbers::is_variables(n) {
+    if !arithmetic::is_variables(n) {
         return Checked::Refused(1);
     }
     if weights.len() != n {
@@ -41,7 +41,8 @@ pub fn sums_fit(weights: &[i32]) -> bool
         }
         j += 1;
     }
-    numbers::is_within(-8388608, 8388607, least) && numbers::is_within(-8388608, 8388607, greatest)
+    arithmetic::is_within(-8388608, 8388607, least)
+        && arithmetic::is_within(-8388608, 8388607, greatest)
 }
 
 // Whether q is a number of bits that a remainder may have.

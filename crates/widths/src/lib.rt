@@ -26,8 +26,8 @@ pub fn rail_width(count: u32) -> usize
 pub fn weight_width(least: i32, greatest: i32) -> usize
     ensures { λ r. ⌜ r ≡ weightWidth (least ∷ greatest ∷ []) ⌝ }
 {
-    let low = numbers::magnitude(least);
-    let high = numbers::magnitude(greatest);
+    let low = arithmetic::magnitude(least);
+    let high = arithmetic::magnitude(greatest);
     let bits = bit_length(if low < high { high } else { low });
     if least < 0 || greatest < 0 {
         1 + bits

@@ -1,8 +1,13 @@
 -- `classes::class_cut_at` meets its contract: the parts of the rows that belong to cut h are lent and come back. Assumes nothing.
+use Prim.Native.Nat.{ℕ, _+_, _-_}
+use mathlib.Core.Path.{_≡_}
+use mathlib.Core.List.{List}
 use native.Mathlib.Omega.{arith}
+use lib.ListN.{length}
 use mir.Facts.{fits-of-lt}
 use Rattle.numbers.specs.Ranges.{mostVariables}
 use Rattle.classes.specs.Laws.CutRows.{CutAt, count-small, within-classes, within-firsts, within-tried, within-uses, within-use-counts, cut-room, cut-placed}
+use borrow.Rule.Slice.PartMut.{midOf, putMid, same-len-mid}
 use borrow.Author.Needs.{needs}
 use Rattle.classes.proofs.class_cut_at.Statement.{statement}
 use Rattle.classes.proofs.class_cut_at.Tie as tie
@@ -95,20 +100,39 @@ part-class-cut-end-5 c = within-use-counts (known (c .before .before .before .be
 class-cut-requires : tie.Need-class-cut-requires
 class-cut-requires c κs = cut-room (known (c .before .before .before .before .before))
 
+-- A row whose part came back with as many places has as many places as it had.
+row-kept : (count : ℕ) (row part : List ℕ) → length part ≡ length (midOf (count - 1) (count - 1 + count - (count - 1)) row) → length (putMid (count - 1) (count - 1 + count - (count - 1)) row part) ≡ length row
+row-kept count = same-len-mid (count - 1) (count - 1 + count - (count - 1))
+
 same-length : tie.Need-same-length
-same-length c = search needs
+same-length c =
+    let k = c .before .before .before .before .before .before .before .before .before .before in
+    let p = k .before .before .before .before .before .before in
+    row-kept (p .before .power .result) (start p .args .classes .now) (k .class-cut .last .1 .1 .0) (k .class-cut .kept .1 .1 .0)
 
 same-length-2 : tie.Need-same-length-2
-same-length-2 c = search needs
+same-length-2 c =
+    let k = c .before .before .before .before .before .before .before .before .before .before in
+    let p = k .before .before .before .before .before .before in
+    row-kept (p .before .power .result) (start p .args .firsts .now) (k .class-cut .last .1 .1 .1 .0) (k .class-cut .kept .1 .1 .1 .0)
 
 same-length-3 : tie.Need-same-length-3
-same-length-3 c = search needs
+same-length-3 c =
+    let k = c .before .before .before .before .before .before .before .before .before .before in
+    let p = k .before .before .before .before .before .before in
+    row-kept (p .before .power .result) (start p .args .tried .now) (k .class-cut .last .1 .1 .1 .1 .0) (k .class-cut .kept .1 .1 .1 .1 .0)
 
 same-length-4 : tie.Need-same-length-4
-same-length-4 c = search needs
+same-length-4 c =
+    let k = c .before .before .before .before .before .before .before .before .before .before in
+    let p = k .before .before .before .before .before .before in
+    row-kept (p .before .power .result) (start p .args .uses .now) (k .class-cut .last .1 .1 .1 .1 .1 .0) (k .class-cut .kept .1 .1 .1 .1 .1 .0)
 
 same-length-5 : tie.Need-same-length-5
-same-length-5 c = search needs
+same-length-5 c =
+    let k = c .before .before .before .before .before .before .before .before .before .before in
+    let p = k .before .before .before .before .before .before in
+    row-kept (p .before .power .result) (start p .args .use-counts .now) (k .class-cut .last .1 .1 .1 .1 .1 .1 .0) (k .class-cut .kept .1 .1 .1 .1 .1 .1 .0)
 
 returns : tie.Need-returns
 returns c =

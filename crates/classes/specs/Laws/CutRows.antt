@@ -22,7 +22,8 @@ use Rattle.tries.specs.Laws.Rows.{length-cut-tries}
 use Rattle.uses.specs.Uses.{usesOf, classesAt, cutUses}
 use Rattle.uses.specs.Inner.Rows.{useRow, cutUseRow}
 use Rattle.uses.specs.Laws.Rows.{length-cut-uses, length-cut-use-row, classes-are}
-use Rattle.cuts.specs.Inner.Classing.{cutRows, CutRoom, CutClassed}
+use Rattle.classing.specs.Inner.Block.{cutRows}
+use Rattle.cuts.specs.Inner.Classing.{CutRoom, CutClassed}
 use Rattle.classes.specs.Inner.Placing.{CutPlaced}
 use Rattle.classes.specs.Inner.Searched.{SearchRoom}
 use Rattle.search.specs.Inner.Searching.{partDifferences}

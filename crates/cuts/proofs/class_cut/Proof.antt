@@ -1,6 +1,6 @@
 -- `cuts::class_cut` meets its contract: the one block of cut 0 is the table. Assumes nothing.
 use mathlib.Core.Path.{refl}
-use Rattle.cuts.specs.Inner.Classing.{cutRows}
+use Rattle.classing.specs.Inner.Block.{cutRows}
 use Rattle.cuts.specs.Laws.Cut.{one-block}
 use borrow.Author.Needs.{needs}
 use Rattle.cuts.proofs.class_cut.Statement.{statement}

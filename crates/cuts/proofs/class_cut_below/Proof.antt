@@ -5,7 +5,8 @@ use mathlib.Core.Path.{_≡_, refl, sym, _∙_, subst}
 use native.Mathlib.Omega.{arith}
 use lib.ListN.{length}
 use borrow.Author.Needs.{needs}
-use Rattle.cuts.specs.Inner.Classing.{cutRows, CutSoFar}
+use Rattle.classing.specs.Inner.Block.{cutRows}
+use Rattle.cuts.specs.Inner.Classing.{CutSoFar}
 use Rattle.cuts.specs.Laws.Cut.{cut-start, cut-done}
 use Rattle.cuts.specs.Laws.Halves.{above-inside, cut-halves-room, halves-next}
 use Rattle.cuts.proofs.class_cut_below.Statement.{statement}

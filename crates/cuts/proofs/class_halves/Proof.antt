@@ -4,7 +4,8 @@ use mathlib.Core.Path.{sym, _∙_, ap₂}
 use native.Mathlib.Omega.{arith}
 use lib.ListN.{length, drop, length-drop}
 use lib.Seq.{length-take-le, take-all}
-use Rattle.cuts.specs.Inner.Classing.{cutRows, blockClassed, halvesClassed}
+use Rattle.classing.specs.Inner.Block.{cutRows, blockClassed}
+use Rattle.cuts.specs.Inner.Classing.{halvesClassed}
 use Rattle.cuts.specs.Laws.Halves.{lower-room, upper-room}
 use borrow.Author.Needs.{needs}
 use Rattle.cuts.proofs.class_halves.Statement.{statement}

@@ -12,7 +12,8 @@ use Rattle.numbers.specs.Lists.{padded}
 use Rattle.numbers.specs.Laws.Padding.{take-padded, padded-suc, set-padded}
 use Rattle.blocks.specs.Classes.{numberIn, learn, learnAll, distinct}
 use Rattle.blocks.specs.Inner.Layout.{numbersOf, firstsOf}
-use Rattle.cuts.specs.Inner.Classing.{Classed, countNoted, firstsNoted}
+use Rattle.classing.specs.Inner.Block.{countNoted, firstsNoted}
+use Rattle.cuts.specs.Inner.Classing.{Classed}
 use Rattle.blocks.specs.Laws.Known.{number-le, number-at, number-append, number-new, learn-known, learn-new, known-or-new, learnAll-append, number-when-met, distinct-known, distinct-length}
 
 pub none-classed : (ds : List (List ℤ)) (numbers firsts : List ℕ) → Classed ds 0 0 numbers firsts

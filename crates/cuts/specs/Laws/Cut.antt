@@ -1,5 +1,5 @@
 -- Classing the blocks of a cut: what the rows hold on the way, and that they are whole at the end.
-use Prim.Native.Nat.{ℕ, _+_, _*_, _^_, _≤_, _<_}
+use Prim.Native.Nat.{ℕ, _+_, _*_, _≤_, _<_}
 use mathlib.Core.Path.{_≡_, refl, sym, _∙_, ap, ap₂, subst}
 use mathlib.Core.List.{List, [], map}
 use native.Mathlib.Nat.{zero-add, one-mul, zero-mul, suc-mul, mul-le-mul-right}
@@ -7,24 +7,24 @@ use native.Mathlib.Numerals.{add-one}
 use native.Mathlib.Omega.{arith}
 use lib.ListN.{length, getD, take, drop, set, length-map, length-set}
 use lib.Seq.{ext-getD, getD-take, length-take-le, take-length}
-use lib.Dec.{eqb}
 use lib.IntN.{ℤ}
-use Rattle.numbers.specs.Laws.Bools.{yes-or-no}
 use Rattle.numbers.specs.Lists.{numbersFrom}
 use Rattle.numbers.specs.Laws.Lists.{length-range, getD-range, getD-map}
 use Rattle.blocks.specs.Blocks.{differences}
 use Rattle.blocks.specs.Classes.{numberIn, distinct}
 use Rattle.blocks.specs.Inner.Layout.{part, numbersOf, firstsOf}
-use Rattle.cuts.specs.Inner.Classing.{countNoted, firstsNoted, usesNoted, latestClass, CutRows, foundKnown, blockClassed, cutLists, Classed, CutSoFar, BlockRoom, CutRoom, CutClassed}
 use Rattle.tries.specs.Tries.{numberTried, triedAt}
 use Rattle.uses.specs.Uses.{useCount, usesAt, usesOf}
-use Rattle.search.specs.Inner.Searching.{partDifferences, usesWith, SmallCounts, foundAmong}
-use Rattle.blocks.specs.Laws.Known.{number-le, number-at, number-by, own-distinct, Among, distinct-seen}
+use Rattle.search.specs.Inner.Searching.{partDifferences, usesWith, foundAmong}
+use Rattle.blocks.specs.Laws.Known.{number-at, number-by, own-distinct, Among, distinct-seen}
 use Rattle.search.specs.Laws.Searching.{length-parts, part-at}
 use Rattle.cuts.specs.Laws.Classing.{none-classed, before-length, classed-next, known-places, all-classed}
 use Rattle.cuts.specs.Laws.Noting.{noted-next, all-noted}
 use Rattle.cuts.specs.Laws.Tries.{latest-among, tries-next, all-tried}
 use Rattle.cuts.specs.Laws.Uses.{length-numbers, uses-few, uses-are, use-counts-next, all-counted}
+use Rattle.classing.specs.Inner.Block.{countNoted, firstsNoted, latestClass, CutRows, foundKnown, blockClassed, BlockRoom}
+use Rattle.classing.specs.Laws.Block.{length-noted, length-uses-noted}
+use Rattle.cuts.specs.Inner.Classing.{cutLists, Classed, CutSoFar, CutRoom, CutClassed}
 
 pub length-cut-lists : (table : List ℤ) (size count : ℕ) → length (cutLists table size count) ≡ count
 length-cut-lists table size count = length-parts table size (numbersFrom 0 count) ∙ length-range 0 count
@@ -33,47 +33,6 @@ pub cut-list-at : (table : List ℤ) (size count j : ℕ) → j < count → getD
 cut-list-at table size count j h =
     part-at table size (numbersFrom 0 count) j (rw length-range h)
     ∙ ap (λ k. differences (part table size k)) (getD-range 0 count j 0 h ∙ zero-add j)
-
-pub length-noted : (firstRow : List ℕ) (known j class : ℕ) → length (firstsNoted firstRow known j class) ≡ length firstRow
-unfolding firstsNoted
-length-noted firstRow known j class =
-    yes-or-no (eqb class known)
-    (λ e. rw e (simp length-set))
-    (λ e. rw e (simp length-set))
-
-length-uses-noted : (useCountRow : List ℕ) (j class uses : ℕ) → length (usesNoted useCountRow j class uses) ≡ length useCountRow
-unfolding usesNoted
-length-uses-noted useCountRow j class uses = simp length-set
-
--- ---- what the search is lent and finds at a block
-
-module _ {table : List ℤ} {size j : ℕ} {rows : CutRows} (r : BlockRoom table size j rows) where
-  -- The class that it finds is known or the next new one.
-  pub found-inside : (values : List ℤ) → foundKnown table size j values rows .class ≤ j
-  unfolding foundKnown foundAmong
-  found-inside values =
-      let firsts = take (rows .known) (rows .firstRow) in
-      let n = number-le (partDifferences table size firsts) (differences values) in
-      let p = length-parts table size firsts in
-      let f = r .few in
-      let a = r .alike .firstsAlike in
-      let i = r .inside in
-      let t = length-take-le (rows .known) (rows .firstRow) (omega arith) in
-      omega arith
-
-  -- One more can be added to each use count.
-  pub counts-small : j < 2 ^ 63 → SmallCounts (take (rows .known) (rows .useCountRow))
-  counts-small fits = record {
-    small = λ class l.
-        let f = r .few in
-        let a = r .alike .useCountsAlike in
-        let i = r .inside in
-        let t = length-take-le (rows .known) (rows .useCountRow) (omega arith) in
-        let below : class < rows .known = omega arith in
-        let u = r .usesFew class below in
-        let e = getD-take (rows .known) (rows .useCountRow) class 0 below in
-        omega arith;
-  }
 
 -- ---- block by block
 

@@ -9,7 +9,8 @@ use lib.Seq.{take-take, drop-drop}
 use lib.IntN.{ℤ}
 use Rattle.numbers.specs.Laws.Lists.{drop-take}
 use Rattle.blocks.specs.Inner.Layout.{part}
-use Rattle.cuts.specs.Inner.Classing.{CutRows, blockClassed, halvesClassed, CutSoFar, BlockRoom, HalvesRoom}
+use Rattle.classing.specs.Inner.Block.{CutRows, blockClassed, BlockRoom}
+use Rattle.cuts.specs.Inner.Classing.{halvesClassed, CutSoFar, HalvesRoom}
 use Rattle.cuts.specs.Laws.Cut.{cut-block-room, cut-next}
 
 -- ---- the halves are blocks of the cut

@@ -12,7 +12,8 @@ use Rattle.blocks.specs.Classes.{numberIn, distinct}
 use Rattle.tries.specs.Tries.{numberTried, blockClass, knownBefore, triedAt, triesOf}
 use Rattle.tries.specs.Laws.Latest.{none-before, class-met, latest-before}
 use Rattle.tries.specs.Laws.Order.{tried-none}
-use Rattle.cuts.specs.Inner.Classing.{Classed, latestClass}
+use Rattle.classing.specs.Inner.Block.{latestClass}
+use Rattle.cuts.specs.Inner.Classing.{Classed}
 use Rattle.cuts.specs.Laws.Noting.{noted-next, all-noted}
 
 module _ (ds : List (List ℤ)) (numbers firsts : List ℕ) where

@@ -16,7 +16,7 @@ use Rattle.uses.specs.Uses.{useCount, usesAt}
 use Rattle.uses.specs.Inner.Rows.{useRow}
 use Rattle.uses.specs.Laws.Counting.{uses-most, found-uses, row-next}
 use Rattle.uses.specs.Laws.Rows.{length-use-row, use-row-at}
-use Rattle.cuts.specs.Inner.Classing.{usesNoted}
+use Rattle.classing.specs.Inner.Block.{usesNoted}
 use Rattle.search.specs.Inner.Searching.{usesWith}
 
 pub length-numbers : (ds : List (List ℤ)) → length (numbersOf ds) ≡ length ds

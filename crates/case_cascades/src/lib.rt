@@ -28,12 +28,12 @@ pub fn plan(numbers: &[i32], table: &[i32], sizes: &[i32], cells: &[i32]) -> boo
         return false;
     }
     let chosen = planned.sizes;
-    if !case_rows::sizes_are(&chosen, sizes) {
+    if !case_fronts::sizes_are(&chosen, sizes) {
         return false;
     }
     let list = planned.cells;
     let row = cell_rows::cell_rows(list);
-    case_rows::sizes_are(&row, cells)
+    case_fronts::sizes_are(&row, cells)
 }
 
 // Whether Compile's outcome is the expected one.
@@ -73,7 +73,7 @@ pub fn compile(numbers: &[i32], table: &[i32], cells: &[i32], front: &[i32]) -> 
     let n = case_rows::size_at(numbers, 1);
     let limit = case_rows::size_at(numbers, 2);
     let places = case_rows::size_at(numbers, 3);
-    let mut lent = [case_rows::BYTE; 512];
+    let mut lent = [case_fronts::BYTE; 512];
     if lent.len() < places {
         return false;
     }
@@ -84,8 +84,8 @@ pub fn compile(numbers: &[i32], table: &[i32], cells: &[i32], front: &[i32]) -> 
     }
     let list = compiled.cells;
     let row = cell_rows::cell_rows(list);
-    if !case_rows::sizes_are(&row, cells) {
+    if !case_fronts::sizes_are(&row, cells) {
         return false;
     }
-    case_rows::bytes_hold(&lent[..places], front)
+    case_fronts::bytes_hold(&lent[..places], front)
 }

@@ -30,7 +30,7 @@ pub fn build(numbers: &[i32], table: &[i32], front: &[i32]) -> bool
 {
     let n = case_rows::size_at(numbers, 1);
     let places = case_rows::size_at(numbers, 2);
-    let mut lent = [case_rows::NUMBER; 24570];
+    let mut lent = [case_fronts::NUMBER; 24570];
     if lent.len() < places {
         return false;
     }
@@ -38,7 +38,7 @@ pub fn build(numbers: &[i32], table: &[i32], front: &[i32]) -> bool
     if !built_is(numbers, answer) {
         return false;
     }
-    case_rows::numbers_hold(&lent[..places], front)
+    case_fronts::numbers_hold(&lent[..places], front)
 }
 
 // Whether Walk answers so.

@@ -34,7 +34,7 @@ pub fn run(numbers: &[i32], image: &[i32]) -> bool
     if bytes.len() < image.len() {
         return false;
     }
-    case_rows::put_bytes(&mut bytes, image);
+    case_fronts::put_bytes(&mut bytes, image);
     let x = case_rows::size_at(numbers, 1);
     let answer = runner::run(&bytes[..image.len()], x);
     let refusal = case_rows::size_at(numbers, 2);
@@ -62,9 +62,9 @@ pub fn expand(numbers: &[i32], image: &[i32], front: &[i32]) -> bool
     if bytes.len() < image.len() {
         return false;
     }
-    case_rows::put_bytes(&mut bytes, image);
+    case_fronts::put_bytes(&mut bytes, image);
     let places = case_rows::size_at(numbers, 1);
-    let mut lent = [case_rows::NUMBER; 4096];
+    let mut lent = [case_fronts::NUMBER; 4096];
     if lent.len() < places {
         return false;
     }
@@ -72,5 +72,5 @@ pub fn expand(numbers: &[i32], image: &[i32], front: &[i32]) -> bool
     if !expanded_is(numbers, answer) {
         return false;
     }
-    case_rows::numbers_hold(&lent[..places], front)
+    case_fronts::numbers_hold(&lent[..places], front)
 }

@@ -10,7 +10,7 @@ pub fn pair_run(numbers: &[i32], image: &[i32]) -> bool
     if bytes.len() < image.len() {
         return false;
     }
-    case_rows::put_bytes(&mut bytes, image);
+    case_fronts::put_bytes(&mut bytes, image);
     let m = case_rows::size_at(numbers, 1);
     let x = case_rows::size_at(numbers, 2);
     let y = case_rows::size_at(numbers, 3);

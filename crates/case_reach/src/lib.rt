@@ -26,5 +26,5 @@ pub fn reach(numbers: &[i32], table: &[i32], cuts: &[i32]) -> bool
         return false;
     }
     let list = reached.cuts;
-    case_rows::sizes_are(&list, cuts)
+    case_fronts::sizes_are(&list, cuts)
 }

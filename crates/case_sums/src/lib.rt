@@ -16,14 +16,14 @@ fn filled_is(numbers: &[i32], answer: Summed, table: &[i32], front: &[i32]) -> b
     if refusal != told {
         return false;
     }
-    case_rows::numbers_hold(table, front)
+    case_fronts::numbers_hold(table, front)
 }
 
 // Whether Sum answers so, and leaves these values in front of the lent table.
 pub fn sum(numbers: &[i32], weights: &[i32], front: &[i32]) -> bool
     ensures { λ r. ⌜ r ≡ sumPasses (now (numbers .entry)) (now (weights .entry)) (now (front .entry)) ⌝ }
 {
-    let mut lent = [case_rows::NUMBER; 4096];
+    let mut lent = [case_fronts::NUMBER; 4096];
     let n = case_rows::size_at(numbers, 1);
     let places = case_rows::size_at(numbers, 2);
     if lent.len() < places {
@@ -37,7 +37,7 @@ pub fn sum(numbers: &[i32], weights: &[i32], front: &[i32]) -> bool
 pub fn remainder(numbers: &[i32], weights: &[i32], front: &[i32]) -> bool
     ensures { λ r. ⌜ r ≡ remainderPasses (now (numbers .entry)) (now (weights .entry)) (now (front .entry)) ⌝ }
 {
-    let mut lent = [case_rows::NUMBER; 4096];
+    let mut lent = [case_fronts::NUMBER; 4096];
     let n = case_rows::size_at(numbers, 1);
     let places = case_rows::size_at(numbers, 2);
     if lent.len() < places {

@@ -55,7 +55,7 @@ fn chosen_cell(
     let bits = cost_of(here) - cost_of(there);
     let incoming = counts[h];
     let outgoing = counts[end];
-    let commonest = uses::commonest_of_cut(use_counts, end, outgoing);
+    let commonest = commonest::commonest_of_cut(use_counts, end, outgoing);
     Cell {
         group,
         incoming,

@@ -1,4 +1,4 @@
--- `uses::commonest` meets its contract. The loop's invariant: the class leads among the counts so far. Assumes nothing.
+-- `commonest::commonest` meets its contract. The loop's invariant: the class leads among the counts so far. Assumes nothing.
 use Prim.Native.Nat.{ℕ, _+_, _-_, _≤_, _<_}
 use mathlib.Core.Path.{_≡_, sym, _∙_, ap, subst}
 use mathlib.Core.List.{List, [], _∷_, _++_}
@@ -7,11 +7,11 @@ use native.Mathlib.Numerals.{add-one}
 use native.Mathlib.Omega.{arith}
 use lib.ListN.{length, getD, take}
 use lib.Seq.{take-suc, take-length, length-take-le}
 use Rattle.uses.specs.declared.Common.{Common}
 use Rattle.uses.specs.Laws.Commonest.{Leading, leading-is, none-leads, greater-leads, other-stays}
 use borrow.Author.Needs.{needs}
-use Rattle.uses.proofs.commonest.Statement.{statement}
-use Rattle.uses.proofs.commonest.Tie as tie
+use Rattle.commonest.proofs.commonest.Statement.{statement}
+use Rattle.commonest.proofs.commonest.Tie as tie
 
 abbrev Inv-loop : tie.InvT-loop
 Inv-loop use-counts class₀ uses₀ k₀ class uses k = (k ≤ length use-counts) × Leading (take k use-counts) (record { class = class; uses = uses })

@@ -1,4 +1,4 @@
--- `case_rows::bytes_hold` meets its contract. The loop's invariant: from the next place on, the rest decides. Assumes nothing.
+-- `case_fronts::bytes_hold` meets its contract. The loop's invariant: from the next place on, the rest decides. Assumes nothing.
 use Prim.Native.Nat.{_-_, _<_}
 use mathlib.Core.Path.{_≡_, sym, _∙_, ap}
 use mathlib.Core.List.{List, map}
@@ -12,10 +12,10 @@ use borrow.Author.Tests.{not-true, not-false}
 use borrow.Author.Needs.{needs}
 use Rattle.numbers.specs.Ranges.{eqZ}
 use Rattle.numbers.specs.Laws.Lists.{getD-map}
 use Rattle.case_rows.specs.Rows.{byteLent}
 use Rattle.case_rows.specs.Laws.Rows.{HoldsTo, too-many, holds-start, holds-on, holds-not, holds-all}
-use Rattle.case_rows.proofs.bytes_hold.Statement.{statement}
-use Rattle.case_rows.proofs.bytes_hold.Tie as tie
+use Rattle.case_fronts.proofs.bytes_hold.Statement.{statement}
+use Rattle.case_fronts.proofs.bytes_hold.Tie as tie
 
 abbrev Inv-loop : tie.InvT-loop
 Inv-loop row front i₀ i = HoldsTo (pos byteLent) (map pos row) front i

@@ -1,4 +1,4 @@
--- `case_rows::numbers_hold` meets its contract. The loop's invariant: from the next place on, the rest decides. Assumes nothing.
+-- `case_fronts::numbers_hold` meets its contract. The loop's invariant: from the next place on, the rest decides. Assumes nothing.
 use Prim.Native.Nat.{_-_}
 use mathlib.Core.Path.{_≡_, sym, _∙_, ap}
 use lib.ListN.{length, getD}
@@ -7,10 +7,10 @@ use mir.Facts.{toZ-ofZ}
 use borrow.Author.Tests.{not-true, not-false}
 use borrow.Author.Needs.{needs}
 use Rattle.numbers.specs.Ranges.{eqZ}
 use Rattle.case_rows.specs.Rows.{numberLent}
 use Rattle.case_rows.specs.Laws.Rows.{HoldsTo, too-many, holds-start, holds-on, holds-not, holds-all, inside-row}
-use Rattle.case_rows.proofs.numbers_hold.Statement.{statement}
-use Rattle.case_rows.proofs.numbers_hold.Tie as tie
+use Rattle.case_fronts.proofs.numbers_hold.Statement.{statement}
+use Rattle.case_fronts.proofs.numbers_hold.Tie as tie
 
 abbrev Inv-loop : tie.InvT-loop
 Inv-loop row front i₀ i = HoldsTo numberLent row front i

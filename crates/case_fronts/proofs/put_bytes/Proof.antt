@@ -1,4 +1,4 @@
--- `case_rows::put_bytes` meets its contract. The loop's invariant: the bytes so far stand in front. Assumes nothing.
+-- `case_fronts::put_bytes` meets its contract. The loop's invariant: the bytes so far stand in front. Assumes nothing.
 use Prim.Native.Nat.{_-_, _%_}
 use mathlib.Core.Path.{_≡_, _∙_, ap}
 use native.Mathlib.Omega.{arith}
@@ -9,10 +9,10 @@ use mir.Syntax.{w32}
 use mir.Val.{SFits}
 use mir.Facts.{toZ-ofZ}
 use borrow.Author.Needs.{needs}
 use Rattle.case_rows.specs.Rows.{byteOf}
 use Rattle.case_rows.specs.Laws.Rows.{BytesTo, no-bytes, bytes-kept, one-byte, all-bytes}
-use Rattle.case_rows.proofs.put_bytes.Statement.{statement}
-use Rattle.case_rows.proofs.put_bytes.Tie as tie
+use Rattle.case_fronts.proofs.put_bytes.Statement.{statement}
+use Rattle.case_fronts.proofs.put_bytes.Tie as tie
 
 abbrev Inv-loop : tie.InvT-loop
 Inv-loop bytes₀ row i₀ bytes i = BytesTo bytes₀ row i bytes

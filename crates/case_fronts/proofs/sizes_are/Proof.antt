@@ -1,4 +1,4 @@
--- `case_rows::sizes_are` meets its contract. The loop's invariant: from the next place on, the rest decides. Assumes nothing.
+-- `case_fronts::sizes_are` meets its contract. The loop's invariant: from the next place on, the rest decides. Assumes nothing.
 use Prim.Native.Nat.{_-_, _<_}
 use mathlib.Core.Path.{_≡_, sym, _∙_, ap, ap₂}
 use mathlib.Core.List.{List, map}
@@ -9,10 +9,10 @@ use lib.Dec.{eqb}
 use borrow.Author.Tests.{eq-eqb, ne-eqb}
 use borrow.Author.Needs.{needs}
 use Rattle.numbers.specs.Ranges.{eqZ}
 use Rattle.case_rows.specs.Rows.{sizeAt, sizesAre}
 use Rattle.case_rows.specs.Laws.Rows.{HoldsTo, too-many, holds-start, holds-on, holds-not, holds-all}
-use Rattle.case_rows.proofs.sizes_are.Statement.{statement}
-use Rattle.case_rows.proofs.sizes_are.Tie as tie
+use Rattle.case_fronts.proofs.sizes_are.Statement.{statement}
+use Rattle.case_fronts.proofs.sizes_are.Tie as tie
 
 abbrev Inv-loop : tie.InvT-loop
 Inv-loop sizes expected i₀ i = HoldsTo (pos 0) (map pos sizes) (map (λ z. pos (mag z)) expected) i

@@ -1,4 +1,4 @@
--- `uses::commonest_of_cut` meets its contract. Assumes nothing.
+-- `commonest::commonest_of_cut` meets its contract. Assumes nothing.
 use Prim.Native.Nat.{_+_, _-_, _≤_}
 use mathlib.Core.Path.{_∙_, ap}
 use native.Mathlib.Nat.{add-sub-cancel-left}
@@ -6,10 +6,10 @@ use lib.ListN.{length, take, drop}
 use lib.Pow.{pow-pos}
 use borrow.Author.Needs.{needs}
 use Rattle.blocks.specs.Inner.Layout.{cutPlace}
 use Rattle.uses.specs.Uses.{commonest}
 use Rattle.uses.specs.Inner.Rows.{inCut}
-use Rattle.uses.proofs.commonest_of_cut.Statement.{statement}
-use Rattle.uses.proofs.commonest_of_cut.Tie as tie
+use Rattle.commonest.proofs.commonest_of_cut.Statement.{statement}
+use Rattle.commonest.proofs.commonest_of_cut.Tie as tie
 
 power-requires : tie.Need-power-requires
 power-requires c κs = search needs

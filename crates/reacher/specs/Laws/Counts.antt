@@ -25,7 +25,8 @@ use Rattle.reach.specs.Inner.Narrowest.{furthest}
 use Rattle.reach.specs.Laws.Answers.{reach-finds}
 use Rattle.reach.specs.Laws.Narrowest.{furthest-same, widest-same}
 use Rattle.reach.specs.Laws.Reached.{oneWide, cuts-run, least-widest}
-use Rattle.reach_counts.specs.Inner.Counts.{narrowestIn, CountsReady, reachedIn}
+use Rattle.narrow_cells.specs.Inner.Counts.{narrowestIn, CountsReady}
+use Rattle.reach_counts.specs.Inner.Counts.{reachedIn}
 use Rattle.reacher.specs.Inner.Checks.{refusedReach}
 
 module _ (n : ℕ) (table : List ℤ) (a : Accepted n table) {countRow : List ℕ} (counted : countRow ≡ allCounts n table) where

@@ -1,13 +1,13 @@
--- `reach_counts::narrowest` meets its contract. Assumes nothing.
+-- `narrow_cells::narrowest` meets its contract. Assumes nothing.
 use Prim.Native.Nat.{_+_}
 use mathlib.Core.Path.{ap}
 use native.Mathlib.Omega.{arith}
 use mir.Facts.{fits-of-lt}
 use borrow.Author.Needs.{needs}
 use Rattle.numbers.specs.Laws.Widths.{rail-width-least}
-use Rattle.reach_counts.specs.Inner.Counts.{narrowestIn}
-use Rattle.reach_counts.proofs.narrowest.Statement.{statement}
-use Rattle.reach_counts.proofs.narrowest.Tie as tie
+use Rattle.narrow_cells.specs.Inner.Counts.{narrowestIn}
+use Rattle.narrow_cells.proofs.narrowest.Statement.{statement}
+use Rattle.narrow_cells.proofs.narrowest.Tie as tie
 
 mul-rail-width : tie.Need-mul-rail-width
 mul-rail-width c = search needs

@@ -1,4 +1,4 @@
--- `reach_counts::least_limit` meets its contract. The loop's invariant: the widest so far is that of the cells from the cuts
+-- `narrow_cells::least_limit` meets its contract. The loop's invariant: the widest so far is that of the cells from the cuts
 -- above h. Assumes nothing.
 use Prim.Native.Nat.{_-_, _≤_}
 use mathlib.Core.Path.{_≡_, refl, sym, _∙_, ap}
@@ -8,10 +8,10 @@ use native.Mathlib.Omega.{arith}
 use mir.Facts.{fits-of-lt}
 use Rattle.reach.specs.Inner.Narrowest.{widestAbove}
 use Rattle.reach.specs.Laws.Narrowest.{widest-next, widest-stays}
-use Rattle.reach_counts.specs.Inner.Counts.{narrowestIn}
-use Rattle.reach_counts.specs.Laws.Counts.{count-ready}
-use Rattle.reach_counts.proofs.least_limit.Statement.{statement}
-use Rattle.reach_counts.proofs.least_limit.Tie as tie
+use Rattle.narrow_cells.specs.Inner.Counts.{narrowestIn}
+use Rattle.narrow_cells.specs.Laws.Counts.{count-ready}
+use Rattle.narrow_cells.proofs.least_limit.Statement.{statement}
+use Rattle.narrow_cells.proofs.least_limit.Tie as tie
 
 abbrev Inv-loop : tie.InvT-loop
 Inv-loop n counts least₀ h₀ least h = (h ≤ n) × (least ≡ widestAbove (narrowestIn counts) h)

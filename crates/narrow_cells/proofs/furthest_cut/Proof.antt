@@ -1,4 +1,4 @@
--- `reach_counts::furthest_cut` meets its contract. The loop's invariant: from each cut above h the cell of one variable fits.
+-- `narrow_cells::furthest_cut` meets its contract. The loop's invariant: from each cut above h the cell of one variable fits.
 -- Assumes nothing.
 use Prim.Native.Nat.{ℕ, _+_, _-_, _≤_, _<_}
 use mathlib.Core.Path.{_≡_}
@@ -7,10 +7,10 @@ use native.Mathlib.Decide.{decLt}
 use mir.Facts.{fits-of-lt}
 use borrow.Author.Tests.{leb-true, leb-false}
 use Rattle.reach.specs.Laws.Narrowest.{furthest-is}
-use Rattle.reach_counts.specs.Inner.Counts.{narrowestIn}
-use Rattle.reach_counts.specs.Laws.Counts.{count-ready}
-use Rattle.reach_counts.proofs.furthest_cut.Statement.{statement}
-use Rattle.reach_counts.proofs.furthest_cut.Tie as tie
+use Rattle.narrow_cells.specs.Inner.Counts.{narrowestIn}
+use Rattle.narrow_cells.specs.Laws.Counts.{count-ready}
+use Rattle.narrow_cells.proofs.furthest_cut.Statement.{statement}
+use Rattle.narrow_cells.proofs.furthest_cut.Tie as tie
 
 abbrev Inv-loop : tie.InvT-loop
 Inv-loop n limit counts h₀ h = (h ≤ n) × ((c : ℕ) → c < h → narrowestIn counts c ≤ limit)

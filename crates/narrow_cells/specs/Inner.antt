@@ -1,0 +1,2 @@
+-- What inner functions promise and hold.
+pub mod Counts

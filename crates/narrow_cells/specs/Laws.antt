@@ -1,0 +1,2 @@
+-- Laws about the definitions of this crate, which proofs cite.
+pub mod Counts

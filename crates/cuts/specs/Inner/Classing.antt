@@ -5,7 +5,6 @@ use mathlib.Core.List.{List, map}
 use lib.ListN.{length, getD, take, drop}
 use lib.IntN.{ℤ}
 use Rattle.numbers.specs.Lists.{numbersFrom, padded}
-use Rattle.blocks.specs.Blocks.{differences}
 use Rattle.blocks.specs.Classes.{numberIn, distinct}
 use Rattle.blocks.specs.Inner.Layout.{part, numbersOf, firstsOf}
 use Rattle.tries.specs.Tries.{triedAt, triesOf}

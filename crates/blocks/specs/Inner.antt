@@ -1,2 +1,4 @@
--- What inner functions promise and hold.
+-- Inner.
 pub mod Layout
+pub mod TryRows
+pub mod UseRows

@@ -1,6 +1,12 @@
--- At the top the paper's "Table and blocks", and the classes of "Cuts and grouping". Inner has what inner functions promise and hold,
--- Laws what is proved of both.
+-- blocks.
 pub mod Blocks
 pub mod Classes
+pub mod Searching
+pub mod WorkedCuts
+pub mod SearchTheorems
+pub mod Tries
+pub mod UseTheorems
+pub mod WorkedUses
+pub mod Uses
 pub mod Inner
 pub mod Laws

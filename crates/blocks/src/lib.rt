@@ -1,4 +1,7 @@
 // Blocks of a table and their classes: what they are, and where they stand in a row of all cuts.
+pub mod comparing;
+pub mod uses;
+
 ghost use mathlib.Core.Path.{_≡_};
 ghost use Prim.Native.Nat.{_+_, _*_, _^_, _<_};
 ghost use lib.ListN.{length, getD};
@@ -20,7 +23,7 @@ pub fn in_cut(row: &[usize], h: usize, k: usize) -> usize
     requires { ⌜ (h < 64) × (cutPlace h + k < length (now row)) ⌝ }
     ensures { λ r. ⌜ r ≡ getD (now (row .entry)) (cutPlace h + k) 0 ⌝ }
 {
-    row[arithmetic::power(h) - 1 + k]
+    row[numbers::arithmetic::power(h) - 1 + k]
 }
 
 // The first value of block j of height i.
@@ -28,5 +31,5 @@ pub fn first_of_block(table: &[i32], i: usize, j: usize) -> i32
     requires { ⌜ (i < 64) × (j * 2 ^ i < length (now table)) ⌝ }
     ensures { λ r. ⌜ r ≡ first (block (now (table .entry)) i j) ⌝ }
 {
-    table[j * arithmetic::power(i)]
+    table[j * numbers::arithmetic::power(i)]
 }

@@ -23,7 +23,7 @@ fn write_records(
     let mut i = 0;
     while i < n {
         let h = n - 1 - i;
-        made = recorder::place_cut(
+        made = crate::recorder::place_cut(
             n,
             h,
             counts[h],
@@ -63,14 +63,14 @@ pub(crate) fn build_checked(n: usize, table: &[i32], nodes: &mut [i32]) -> Built
     requires { ⌜ Accepted n (now table) ⌝ }
     ensures { λ r. ⌜ Builds n (now (table .entry)) (now (nodes .entry)) r (now (nodes .exit)) ⌝ }
 {
-    if nodes.len() < records::node_room(n) {
+    if nodes.len() < diagram::records::node_room(n) {
         return Built::Refused(4);
     }
     let mut classes = [0usize; 8191];
     let mut firsts = [0usize; 8191];
     let mut counts = [0usize; 13];
     let cuts = n + 1;
-    let size = arithmetic::power(cuts) - 1;
+    let size = numbers::arithmetic::power(cuts) - 1;
     let made = record_table(
         n,
         table,

@@ -1,5 +1,8 @@
 // Build: the reduced diagram of a table, from the classes of its cuts.
 mod building;
+pub mod forks;
+pub mod ranges;
+pub mod recorder;
 
 ghost use Rattle.diagram.specs.Build.{Builds};
 use diagram::Built;
@@ -9,7 +12,7 @@ use diagram::Checked;
 pub fn build(n: usize, table: &[i32], nodes: &mut [i32]) -> Built
     ensures { λ r. ⌜ Builds n (now (table .entry)) (now (nodes .entry)) r (now (nodes .exit)) ⌝ }
 {
-    match tables::check_table(n, table) {
+    match diagram::tables::check_table(n, table) {
         Checked::Refused(number) => Built::Refused(number),
         Checked::Passed => building::build_checked(n, table, nodes),
     }

@@ -1,4 +1,4 @@
--- What inner functions promise and hold.
+-- Inner.
 pub mod Choices
 pub mod Planned
 pub mod Sizes

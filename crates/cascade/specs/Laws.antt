@@ -1,4 +1,4 @@
--- Laws about the definitions of this crate, which proofs cite.
+-- Laws.
 pub mod Admitting
 pub mod Cards
 pub mod Cells
@@ -7,6 +7,7 @@ pub mod Chosen
 pub mod Groupings
 pub mod Lengths
 pub mod Planned
+pub mod Rows
 pub mod WellFormed
 pub mod WordReading
 pub mod Words

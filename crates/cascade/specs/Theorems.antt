@@ -15,8 +15,8 @@ use Rattle.numbers.specs.Answers.{Answer, accepted, refused, mapAnswer, bufferA
 use Rattle.numbers.specs.Lists.{padded, sumOf}
 use Rattle.numbers.specs.Ranges.{isLimit, mostVariables}
 use Rattle.blocks.specs.Classes.{classCount}
-use Rattle.uses.specs.Uses.{useCount, classesAt, commonestAt}
-use Rattle.uses.specs.Theorems.{commonest-known, commonest-uses, commonest-most, commonest-smallest, commonest-at-bottom}
+use Rattle.blocks.specs.Uses.{useCount, classesAt, commonestAt}
+use Rattle.blocks.specs.UseTheorems.{commonest-known, commonest-uses, commonest-most, commonest-smallest, commonest-at-bottom}
 use Rattle.diagram.specs.Accepted.{Accepted}
 use Rattle.diagram.specs.Build.{ofTable}
 use Rattle.diagram.specs.Records.{records, nodeCount}

@@ -1,4 +1,5 @@
 // Groupings of a table's variables, the cells of their cascade, and what Plan and Compile answer.
+pub mod cell_rows;
 pub mod words;
 
 // A cell of a plan, with the commonest of its outgoing classes, the smallest number on a tie, and how many blocks of the cut where it

@@ -5,15 +5,15 @@ use mathlib.Core.List.{List, [], _∷_}
 use lib.ListN.{length, getD, take, drop}
 use lib.Dec.{eqb}
 use lib.IntN.{ℤ}
-use Rattle.case_rows.specs.Rows.{sizeAt}
-use Rattle.case_lines.specs.Text.{lineNumbers}
-use Rattle.case_diagrams.specs.Cases.{buildPasses, walkPasses}
-use Rattle.case_images.specs.Cases.{runPasses, expandPasses}
-use Rattle.case_cascades.specs.Cases.{planPasses, compilePasses}
-use Rattle.case_reports.specs.Cases.{reportPasses}
-use Rattle.case_pairs.specs.Cases.{pairRunPasses}
-use Rattle.case_reach.specs.Cases.{reachPasses}
-use Rattle.case_sums.specs.Cases.{sumPasses, remainderPasses}
+use Rattle.cases.specs.Rows.{sizeAt}
+use Rattle.cases.specs.Text.{lineNumbers}
+use Rattle.cases.specs.DiagramCases.{buildPasses, walkPasses}
+use Rattle.cases.specs.ImageCases.{runPasses, expandPasses}
+use Rattle.cases.specs.CascadeCases.{planPasses, compilePasses}
+use Rattle.cases.specs.ReportCases.{reportPasses}
+use Rattle.cases.specs.PairCases.{pairRunPasses}
+use Rattle.cases.specs.ReachCases.{reachPasses}
+use Rattle.cases.specs.SumCases.{sumPasses, remainderPasses}
 
 -- Whether a case passes as one of each operation, by its number; there is none with the number 0.
 unfoldable pub operationsPass : List ℤ → List ℤ → List ℤ → List ℤ → List Bool

@@ -1,2 +1,2 @@
--- Laws about the definitions of this crate, which proofs cite.
+-- Laws.
 pub mod Cases

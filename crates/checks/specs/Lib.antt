@@ -1,3 +1,3 @@
--- When a case passes. Laws has what is proved of it.
+-- checks.
 pub mod Cases
 pub mod Laws

@@ -15,24 +15,24 @@
 
 ghost use mathlib.Core.Path.{_≡_};
 ghost use Rattle.checks.specs.Cases.{rowsPass, casePasses, linePasses};
-use case_tally::Tally;
+use cases::tally::Tally;
 
 // Whether the operation answers as the numbers and rows of a case say.
 fn judge_rows(numbers: &[i32], first: &[i32], second: &[i32], third: &[i32]) -> bool
     ensures { λ r. ⌜ r ≡ rowsPass (now (numbers .entry)) (now (first .entry)) (now (second .entry)) (now (third .entry)) ⌝ }
 {
-    match case_rows::size_at(numbers, 0) {
-        1 => case_diagrams::build(numbers, first, second),
-        2 => case_diagrams::walk(numbers, first),
-        3 => case_cascades::plan(numbers, first, second, third),
-        4 => case_cascades::compile(numbers, first, second, third),
-        5 => case_images::run(numbers, first),
-        6 => case_images::expand(numbers, first, second),
-        7 => case_reports::report(numbers, first, second),
-        8 => case_pairs::pair_run(numbers, first),
-        9 => case_reach::reach(numbers, first, second),
-        10 => case_sums::sum(numbers, first, second),
-        11 => case_sums::remainder(numbers, first, second),
+    match cases::rows::size_at(numbers, 0) {
+        1 => cases::diagrams::build(numbers, first, second),
+        2 => cases::diagrams::walk(numbers, first),
+        3 => cases::cascades::plan(numbers, first, second, third),
+        4 => cases::cascades::compile(numbers, first, second, third),
+        5 => cases::images::run(numbers, first),
+        6 => cases::images::expand(numbers, first, second),
+        7 => cases::reports::report(numbers, first, second),
+        8 => cases::pair_runs::pair_run(numbers, first),
+        9 => cases::reaches::reach(numbers, first, second),
+        10 => cases::summed::sum(numbers, first, second),
+        11 => cases::summed::remainder(numbers, first, second),
         _ => false,
     }
 }
@@ -41,9 +41,9 @@ fn judge_rows(numbers: &[i32], first: &[i32], second: &[i32], third: &[i32]) -> 
 fn judge(row: &[i32]) -> bool
     ensures { λ r. ⌜ r ≡ casePasses (now (row .entry)) ⌝ }
 {
-    let first = 12 + case_rows::size_at(row, 9);
-    let second = first + case_rows::size_at(row, 10);
-    let third = second + case_rows::size_at(row, 11);
+    let first = 12 + cases::rows::size_at(row, 9);
+    let second = first + cases::rows::size_at(row, 10);
+    let third = second + cases::rows::size_at(row, 11);
     if row.len() != third {
         return false;
     }
@@ -55,7 +55,7 @@ fn judge_line(line: &[u8]) -> bool
     ensures { λ r. ⌜ r ≡ linePasses (now (line .entry)) ⌝ }
 {
     let mut row = [0i32; 8448];
-    let count = case_lines::read_row(line, &mut row);
+    let count = cases::case_lines::read_row(line, &mut row);
     judge(&row[..count])
 }
 
@@ -67,8 +67,8 @@ pub(crate) fn judge_all(cases: &[u8]) {
     };
     let mut at = 0;
     while at < cases.len() {
-        let numbers = case_lines::behind_line(cases, at);
-        let next = case_lines::behind_line(cases, numbers);
+        let numbers = cases::case_lines::behind_line(cases, at);
+        let next = cases::case_lines::behind_line(cases, numbers);
         let passed = judge_line(&cases[numbers..next]);
         tally = tally.note(&cases[at..numbers], passed);
         at = next;

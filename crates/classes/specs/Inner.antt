@@ -1,3 +1,6 @@
--- What inner functions promise and hold.
+-- Inner.
+pub mod Block
+pub mod Classing
 pub mod Placing
 pub mod Searched
+pub mod Searching

@@ -1,4 +1,3 @@
--- The classing of the cuts has no term of its own: the paper's stand in blocks. Inner has what its functions promise and hold, Laws
--- what is proved of both.
+-- classes.
 pub mod Inner
 pub mod Laws

@@ -1,10 +1,15 @@
 // The classes of every cut: each block's class, each class's first block, how many classes a cut has, how many classes were tried for
 // each block, how many blocks up to and including it have its class, and how many have each class.
+pub mod classing;
+pub mod commonest;
+pub mod cuts;
+pub mod search;
+
 ghost use mathlib.Core.Path.{_≡_};
 ghost use Prim.Native.Nat.{suc, _≤_};
 ghost use lib.ListN.{length};
 ghost use Rattle.blocks.specs.Inner.Layout.{cutPlace, CutsRoom, AllClassed};
-ghost use Rattle.uses.specs.Inner.Rows.{allUseRows};
+ghost use Rattle.blocks.specs.Inner.UseRows.{allUseRows};
 ghost use Rattle.classes.specs.Inner.Placing.{CutPlaced};
 ghost use Rattle.classes.specs.Inner.Searched.{SearchRoom, AllSearched};
 
@@ -23,11 +28,11 @@ fn class_cut_at(
     requires { ⌜ h ≤ n ⌝ }
     ensures { λ r. ⌜ CutPlaced n (now (table .entry)) h (now (classes .entry)) (now (firsts .entry)) (now (tried .entry)) (now (uses .entry)) (now («use_counts» .entry)) r (now (classes .exit)) (now (firsts .exit)) (now (tried .exit)) (now (uses .exit)) (now («use_counts» .exit)) ⌝ }
 {
-    let count = arithmetic::power(h);
-    let size = arithmetic::power(n - h);
+    let count = numbers::arithmetic::power(h);
+    let size = numbers::arithmetic::power(n - h);
     let start = count - 1;
     let end = start + count;
-    cuts::class_cut(
+    crate::cuts::class_cut(
         table,
         size,
         &mut classes[start..end],

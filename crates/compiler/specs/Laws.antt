@@ -1,2 +1,10 @@
--- Laws about the definitions of this crate, which proofs cite.
+-- Laws.
+pub mod Cells
+pub mod Commands
+pub mod Compiles
+pub mod Counting
+pub mod Images
+pub mod Measuring
+pub mod Planned
 pub mod Ready
+pub mod Words

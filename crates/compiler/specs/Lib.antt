@@ -1,2 +1,3 @@
--- Compile's answer is defined in cascade. Laws has what is proved of what Plan leaves.
+-- compiler.
+pub mod Inner
 pub mod Laws

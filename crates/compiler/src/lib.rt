@@ -1,4 +1,10 @@
 // Compile: the image of the least-cost grouping of a table, written into a lent buffer.
+pub mod cells;
+pub mod commands;
+pub mod lengths;
+pub mod nodes;
+pub mod placing;
+pub mod words;
 
 ghost use Rattle.cascade.specs.Compile.{Compiles};
 use cascade::Compiled;
@@ -15,10 +21,10 @@ pub fn compile(n: usize, table: &[i32], limit: usize, image: &mut [u8]) -> Compi
     let planned = planner::plan_in(n, table, limit, &mut classes, &mut firsts, &mut counts);
     let verdict = planned.verdict;
     let Verdict::Grouping { cells, bits } = verdict else {
-        return placing::not_compiled(placing::refusal(verdict));
+        return crate::placing::not_compiled(crate::placing::refusal(verdict));
     };
     let list = planned.cells;
-    placing::place_table(
+    crate::placing::place_table(
         n,
         list,
         cells,

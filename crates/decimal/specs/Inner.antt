@@ -1,5 +1,5 @@
--- What inner functions promise and hold.
-pub mod Places
-pub mod Numbers
+-- Inner.
 pub mod Items
+pub mod Numbers
+pub mod Places
 pub mod Values

@@ -1,11 +1,11 @@
--- Laws about the definitions of this crate, which proofs cite.
-pub mod Words
-pub mod Places
-pub mod Numbers
-pub mod Items
-pub mod Values
+-- Laws.
 pub mod Buffers
-pub mod Tables
-pub mod Written
-pub mod Lines
 pub mod Conditions
+pub mod Items
+pub mod Lines
+pub mod Numbers
+pub mod Places
+pub mod Tables
+pub mod Values
+pub mod Words
+pub mod Written

@@ -1,11 +1,10 @@
--- At the top a table as decimal text: its words, their numbers, what the text gives and on which conditions, and the text of a table.
--- Inner has what inner functions promise and hold, Laws what is proved of both.
-pub mod Words
+-- decimal.
 pub mod Numbers
+pub mod Theorems
 pub mod Table
 pub mod Text
-pub mod Conditions
 pub mod Examples
-pub mod Theorems
+pub mod Conditions
+pub mod Words
 pub mod Inner
 pub mod Laws

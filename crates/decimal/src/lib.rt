@@ -1,4 +1,9 @@
 // A table as people write it, in decimal text: what a text gives, its words and their numbers.
+pub mod headings;
+pub mod numerals;
+pub mod parser;
+pub mod values;
+pub mod words;
 
 // What was expected where a text goes wrong.
 pub enum Expected {

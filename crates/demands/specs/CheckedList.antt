@@ -11,7 +11,7 @@ use Rattle.numbers.specs.Ranges.{mostVariables, widestAddress, isVariables, isL
 use Rattle.numbers.specs.Widths.{railWidth, holds, holdsUnsigned, enough, leastWidth, noneNegative, weightWidth, cellBits}
 use Rattle.blocks.specs.Blocks.{block, blocks, first, lowerHalf, upperHalf, differences}
 use Rattle.blocks.specs.Classes.{same, numberIn, learn, learnAll, distinct, classes, classCount, classOf, railAt}
-use Rattle.uses.specs.Uses.{useCount, classesAt, useCounts, mostUses, commonest, commonestAt}
+use Rattle.blocks.specs.Uses.{useCount, classesAt, useCounts, mostUses, commonest, commonestAt}
 use Rattle.diagram.specs.Records.{branches, kinds, recordsBelow, node, recordOf, recordsAt, records, recordNumbers, recordSize, offset, nodeCount}
 use Rattle.diagram.specs.Build.{ofTable, nodeRoom, build, buildAnswer}
 use Rattle.diagram.specs.Bound.{stepAt, isJump, jumps, risingKinds, nodeBound}

@@ -1,6 +1,7 @@
--- What is proved of the checks and conditions, for the page of the demands to cite.
-pub mod Checks
-pub mod Tests
-pub mod Diagram
+-- Laws.
 pub mod Cascade
+pub mod Checks
+pub mod Clients
+pub mod Diagram
 pub mod Image
+pub mod Tests

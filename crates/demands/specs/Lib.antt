@@ -1,6 +1,7 @@
--- What the table compiler as a whole is trusted for, and the paper's checked values. Laws has what is proved of the conditions.
-pub mod CheckedList
-pub mod Checks
+-- demands.
 pub mod Admitted
+pub mod Checks
+pub mod CheckedList
 pub mod Demands
+pub mod Clients
 pub mod Laws

@@ -1,4 +1,4 @@
--- What inner functions promise and hold.
+-- Inner.
 pub mod Building
 pub mod Checks
 pub mod Edges

@@ -1,4 +1,4 @@
--- Laws about the definitions of this crate, which proofs cite.
+-- Laws.
 pub mod Alike
 pub mod AllRecords
 pub mod Branching

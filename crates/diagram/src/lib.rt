@@ -1,4 +1,6 @@
 // The reduced edge-valued decision diagram of a table: its definitions, the checks on a table, and what its nodes are made of.
+pub mod records;
+pub mod tables;
 
 // Build's answer. The records stand in the lent buffer.
 pub enum Built {

@@ -1,4 +1,4 @@
--- What inner functions promise and hold.
+-- Inner.
 pub mod Bounds
 pub mod Evaluation
 pub mod GivenN

@@ -1,8 +1,8 @@
--- Laws about the definitions of this crate, which proofs cite.
+-- Laws.
 pub mod Bounds
-pub mod CommandBytes
 pub mod Cards
 pub mod Coming
+pub mod CommandBytes
 pub mod Due
 pub mod Evaluating
 pub mod Held

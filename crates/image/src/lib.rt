@@ -102,7 +102,7 @@ pub fn cell_bits(incoming: usize, group: usize, outgoing: usize, width: usize) -
     requires { ⌜ CellFits incoming group outgoing width ⌝ }
     ensures { λ r. ⌜ r ≡ cellBits incoming group outgoing width ⌝ }
 {
-    let address = widths::rail_width(incoming as u32) + group;
-    let word = widths::rail_width(outgoing as u32) + width;
+    let address = numbers::widths::rail_width(incoming as u32) + group;
+    let word = numbers::widths::rail_width(outgoing as u32) + width;
     (1 << address) * word
 }

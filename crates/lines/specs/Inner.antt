@@ -1,3 +1,3 @@
--- What inner functions promise and hold.
+-- Inner.
 pub mod Digits
 pub mod Writing

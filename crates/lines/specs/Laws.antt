@@ -1,4 +1,4 @@
--- Laws about the definitions of this crate, which proofs cite.
+-- Laws.
 pub mod Apart
 pub mod Decimals
 pub mod Digits

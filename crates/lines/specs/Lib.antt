@@ -1,7 +1,6 @@
--- At the top lines of text and decimal numbers, and what holds of them. Inner has what inner functions promise and hold, Laws what is
--- proved of both.
-pub mod Text
+-- lines.
 pub mod Reading
 pub mod Theorems
+pub mod Text
 pub mod Inner
 pub mod Laws

@@ -1,2 +1,5 @@
--- What inner functions promise and hold.
+-- Inner.
+pub mod CellLines
+pub mod Listed
+pub mod NodeLines
 pub mod Values

@@ -1,2 +1,2 @@
--- What inner functions promise and hold.
+-- Inner.
 pub mod Operands

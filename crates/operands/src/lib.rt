@@ -1,4 +1,5 @@
 // Operands: big-endian numbers of fixed width, read and written at a place in bytes.
+pub mod writing;
 
 ghost use mathlib.Core.Path.{_≡_};
 ghost use Prim.Native.Nat.{_+_, _≤_, _<_};

@@ -1,4 +1,6 @@
--- At the top the pair run and what holds of it, in Laws what proofs cite.
+-- pairs.
 pub mod Pairs
 pub mod Theorems
+pub mod TableTheorems
+pub mod PairTables
 pub mod Laws

@@ -1,2 +1,5 @@
--- What inner functions promise and hold.
+-- Inner.
+pub mod Extremes
+pub mod Listed
+pub mod Ready
 pub mod Rows

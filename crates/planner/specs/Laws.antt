@@ -1,3 +1,7 @@
--- Laws about the definitions of this crate, which proofs cite.
+-- Laws.
+pub mod Choosing
+pub mod Leading
+pub mod Listed
 pub mod Plans
+pub mod Pricing
 pub mod Rows

@@ -1,3 +1,3 @@
--- What Plan answers is defined in cascade. Inner has what inner functions promise and hold, Laws what is proved of it.
+-- planner.
 pub mod Inner
 pub mod Laws

@@ -1,5 +1,8 @@
 // Plan: the least-cost grouping of a table's variables within an address limit.
+pub mod cells;
+pub mod choices;
 mod planning;
+pub mod prices;
 
 ghost use Rattle.cascade.specs.Plan.{Plans};
 ghost use Rattle.planner.specs.Inner.Rows.{RowsRoom, RowsLeft};
@@ -18,10 +21,10 @@ pub fn plan_in(
     ensures { λ r. ⌜ Plans n (now (table .entry)) limit r ⌝ }
     ensures { λ r. ⌜ RowsLeft n (now (table .entry)) limit (now (classes .entry)) (now (firsts .entry)) (now (counts .entry)) (now (classes .exit)) (now (firsts .exit)) (now (counts .exit)) ⌝ }
 {
-    match tables::check_table(n, table) {
+    match diagram::tables::check_table(n, table) {
         diagram::Checked::Refused(number) => planning::refused_plan(number),
         diagram::Checked::Passed => {
-            if !arithmetic::is_limit(limit) {
+            if !numbers::arithmetic::is_limit(limit) {
                 return planning::refused_plan(8);
             }
             planning::plan_rows(n, table, limit, classes, firsts, counts)

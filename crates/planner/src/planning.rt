@@ -3,10 +3,10 @@ ghost use mathlib.Core.Path.{_≡_};
 ghost use mathlib.Core.Bool.{true};
 ghost use Rattle.numbers.specs.Ranges.{isLimit};
 ghost use Rattle.blocks.specs.Inner.Layout.{AllClassed};
-ghost use Rattle.uses.specs.Inner.Rows.{allUseRows};
+ghost use Rattle.blocks.specs.Inner.UseRows.{allUseRows};
 ghost use Rattle.diagram.specs.Accepted.{Accepted};
 ghost use Rattle.cascade.specs.Plan.{Plans};
-ghost use Rattle.prices.specs.Inner.Ready.{RowsKnown, PlanRoom};
+ghost use Rattle.planner.specs.Inner.Ready.{RowsKnown, PlanRoom};
 ghost use Rattle.planner.specs.Inner.Rows.{refusedPlan, RowsRoom, RowsFilled};
 use cascade::Cell;
 use cascade::Choice;
@@ -45,12 +45,12 @@ fn plan_cuts(
     requires { ⌜ now «use_counts» ≡ allUseRows n (now table) ⌝ }
     ensures { λ r. ⌜ Plans n (now (table .entry)) limit r ⌝ }
 {
-    let choices = choices::choose_all(n, limit, table, firsts, counts);
+    let choices = crate::choices::choose_all(n, limit, table, firsts, counts);
     let top = choices[0];
     match top {
         Choice::NoList => refused_plan(9),
         Choice::Costing { cost, size: _ } => {
-            cells::list_cells(n, counts, use_counts, choices, cost)
+            crate::cells::list_cells(n, counts, use_counts, choices, cost)
         }
     }
 }
@@ -89,7 +89,7 @@ pub(crate) fn plan_rows(
     ensures { λ r. ⌜ RowsFilled n (now (table .entry)) (now (classes .entry)) (now (firsts .entry)) (now (counts .entry)) (now (classes .exit)) (now (firsts .exit)) (now (counts .exit)) ⌝ }
 {
     let cuts = n + 1;
-    let places = arithmetic::power(cuts) - 1;
+    let places = numbers::arithmetic::power(cuts) - 1;
     plan_table(
         n,
         table,

@@ -1,2 +1,5 @@
--- What inner functions promise and hold.
+-- Inner.
+pub mod Checks
+pub mod Counts
+pub mod NarrowCells
 pub mod Narrowest

@@ -1,5 +1,5 @@
--- At the top Reach and what holds of it. Inner has what the functions promise, Laws what is proved of both.
-pub mod Reach
+-- reach.
 pub mod Theorems
+pub mod Reach
 pub mod Inner
 pub mod Laws

@@ -1,4 +1,7 @@
 // Reach: the cuts that cells within an address limit arrive at, and the least limit that fits; what it is, and what is proved of it.
+pub mod counts;
+pub mod narrow_cells;
+pub mod reaching;
 
 // Reach's verdict: the number of cuts, and the least address limit that fits.
 pub enum Verdict {

@@ -16,9 +16,9 @@ fn judge(image: &[u8], place: Place, command: Command) -> Step
     requires { ⌜ IsDue place command ⌝ }
     ensures { λ r. ⌜ stepped r ≡ judged (now (image .entry)) place command ⌝ }
 {
-    if rules::keeps_rules(place, command) {
-        if rules::ends_well(image, place, command) {
-            return Step::Read(command, places::place_after(place, command));
+    if crate::rules::keeps_rules(place, command) {
+        if crate::rules::ends_well(image, place, command) {
+            return Step::Read(command, crate::places::place_after(place, command));
         }
         return Step::Refused(14);
     }
@@ -30,35 +30,35 @@ pub fn read_step(image: &[u8], place: Place) -> Step
     requires { ⌜ WithinBounds place ⌝ }
     ensures { λ r. ⌜ stepped r ≡ step (now (image .entry)) place ⌝ }
 {
-    if !rules::width_is_least(place) {
+    if !crate::rules::width_is_least(place) {
         return Step::Refused(13);
     }
     let at = place.at;
     if image.len() <= at {
         return Step::Refused(11);
     }
-    let kind = command_reader::due_kind(place);
-    if operands::byte(image, at) != command_reader::command_byte(kind) {
+    let kind = crate::commands::due_kind(place);
+    if operands::byte(image, at) != crate::commands::command_byte(kind) {
         return Step::Refused(12);
     }
-    if image.len() - at < command_reader::command_size(kind) {
+    if image.len() - at < crate::commands::command_size(kind) {
         return Step::Refused(11);
     }
-    judge(image, place, command_reader::command_at(image, at, kind))
+    judge(image, place, crate::commands::command_at(image, at, kind))
 }
 
 // The image is checked from the left, a step at a time.
 pub fn check(image: &[u8]) -> Checked
     ensures { λ r. ⌜ checked r ≡ mapAnswer (λ commands. tt) (reading (now (image .entry))) ⌝ }
 {
-    let mut place = places::start_place();
+    let mut place = crate::places::start_place();
     loop {
         match read_step(image, place) {
             Step::Refused(number) => {
                 return Checked::Refused(number);
             }
             Step::Read(command, next) => {
-                if rules::is_end(command) {
+                if crate::rules::is_end(command) {
                     return Checked::Whole;
                 }
                 place = next;

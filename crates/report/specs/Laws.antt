@@ -1,3 +1,4 @@
--- Laws about the definitions of this crate, which proofs cite.
+-- Laws.
 pub mod Answers
 pub mod Reports
+pub mod Tops

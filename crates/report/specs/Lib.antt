@@ -1,4 +1,5 @@
--- At the top the report and what holds of it, in Laws what proofs cite.
+-- report.
 pub mod Report
 pub mod Theorems
+pub mod Inner
 pub mod Laws

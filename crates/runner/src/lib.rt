@@ -1,4 +1,5 @@
 // Run and Expand: an image is read whole, then evaluated by its words in place.
+pub mod evaluation;
 
 ghost use mathlib.Core.Path.{_≡_};
 ghost use Prim.Native.Nat.{_<_};
@@ -15,10 +16,10 @@ pub fn run_accepted(image: &[u8], x: usize) -> Ran
     requires { ⌜ Accepted (now image) ⌝ }
     ensures { λ r. ⌜ ran r ≡ run (now (image .entry)) x ⌝ }
 {
-    if (1 << evaluation::variables(image)) <= x {
+    if (1 << crate::evaluation::variables(image)) <= x {
         return Ran::Refused(7);
     }
-    let evaluated = evaluation::evaluate(image, x);
+    let evaluated = crate::evaluation::evaluate(image, x);
     Ran::Value {
         value: evaluated.value,
         words: evaluated.words,
@@ -41,7 +42,7 @@ fn fill(image: &[u8], table: &mut [i32])
 {
     let mut x = 0;
     while x < table.len() {
-        let evaluated = evaluation::evaluate(image, x);
+        let evaluated = crate::evaluation::evaluate(image, x);
         let value = evaluated.value;
         table[x] = value;
         x += 1;
@@ -52,7 +53,7 @@ fn expand_accepted(image: &[u8], table: &mut [i32]) -> Expanded
     requires { ⌜ Accepted (now image) ⌝ }
     ensures { λ r. ⌜ Expands (now (image .entry)) (now (table .entry)) r (now (table .exit)) ⌝ }
 {
-    if table.len() != 1 << evaluation::variables(image) {
+    if table.len() != 1 << crate::evaluation::variables(image) {
         return Expanded::Refused(2);
     }
     fill(image, table);

@@ -1,2 +1,4 @@
--- What inner functions promise and hold.
+-- Inner.
+pub mod Checks
+pub mod Filling
 pub mod Summable

@@ -1,9 +1,11 @@
--- Laws about the definitions of this crate, which proofs cite.
+-- Laws.
 pub mod Answers
 pub mod Blocks
+pub mod Checks
 pub mod Classes
 pub mod Diagrams
 pub mod Extremes
+pub mod Filling
 pub mod Remainders
 pub mod Split
 pub mod Summable

@@ -1,3 +1,3 @@
--- What the program makes of a text, and in Laws what is proved of it.
+-- table.
 pub mod Listed
 pub mod Laws

@@ -1,5 +1,7 @@
 // The listing of a table in decimal text: reads standard input to its end and writes the listing to standard output. Where the text
 // is no table, standard error has the line and what was expected there, and standard output the refusal's number.
+mod messages;
+
 ghost use Rattle.stdin.specs.Input.{Keeps};
 ghost use Rattle.table.specs.Listed.{ListsText};
 use decimal::Expected;
@@ -34,8 +36,11 @@ fn list_text(text: &[u8], out: &mut [u8; TEXT_ROOM]) -> Answer
     ensures { λ r. ⌜ ListsText (now (text .entry)) (now (out .entry)) r (now (out .exit)) ⌝ }
 {
     let mut input = [0u8; INPUT_ROOM];
-    match parser::parse(text, &mut input) {
-        Parsed::Input { length } => Answer::Listing(lister::list_input(&input[..length], out)),
+    match decimal::parser::parse(text, &mut input) {
+        Parsed::Input { length } => Answer::Listing(listing::lister::list_input(
+            &input[..length],
+            out,
+        )),
         Parsed::Wrong { line, expected } => Answer::Wrong { line, expected },
         Parsed::TooShort => Answer::Listing(0),
     }
@@ -52,7 +57,7 @@ fn print_answer(text: &[u8]) {
     let mut out = [0u8; TEXT_ROOM];
     match list_text(text, &mut out) {
         Answer::Listing(length) => print_listing(&out[..length]),
-        Answer::Wrong { line, expected } => messages::print_wrong(line, expected),
+        Answer::Wrong { line, expected } => crate::messages::print_wrong(line, expected),
     }
 }
 
@@ -64,7 +69,7 @@ fn main() {
     };
     if count == KEPT {
         io::write_all(STDERR_FILENO, b"expected a text of at most 1048576 bytes\n");
-        messages::print_refusal(106);
+        crate::messages::print_refusal(106);
         return;
     }
     print_answer(&buffer[..count]);

@@ -12,7 +12,7 @@ use Rattle.numbers.specs.Lists.{sumOf}
 use Rattle.numbers.specs.Ranges.{mostVariables}
 use Rattle.numbers.specs.Laws.Padding.{length-padded, take-padded}
 use Rattle.numbers.specs.Laws.Tallies.{sum-append}
-use Rattle.uses.specs.Uses.{commonestAt}
+use Rattle.blocks.specs.Uses.{commonestAt}
 use Rattle.diagram.specs.Accepted.{Accepted}
 use Rattle.cascade.specs.Cascade.{cellOf}
 use Rattle.cascade.specs.Groupings.{cost}

@@ -10,8 +10,8 @@ use lib.Dec.{leb}
 use lib.IntN.{ℤ}
 use borrow.Author.Tests.{leb-true, leb-false, eq-eqb, ne-eqb}
 use Rattle.numbers.specs.Laws.Bools.{yes-or-no}
-use Rattle.case_rows.specs.Rows.{sizeAt}
-use Rattle.case_rows.specs.Laws.Tests.{passed, failed}
+use Rattle.cases.specs.Rows.{sizeAt}
+use Rattle.cases.specs.Laws.Tests.{passed, failed}
 use Rattle.checks.specs.Cases.{operationsPass, rowsPass, casePasses}
 
 -- A case of the operation with this number.

@@ -6,9 +6,9 @@ use lib.IntN.{ℤ}
 use Rattle.numbers.specs.Inner.Rows.{overwritten}
 use Rattle.blocks.specs.Classes.{classCount}
 use Rattle.blocks.specs.Inner.Layout.{cutNumbers, cutFirsts, cutPlace}
-use Rattle.tries.specs.Tries.{cutTries}
-use Rattle.uses.specs.Uses.{cutUses}
-use Rattle.uses.specs.Inner.Rows.{cutUseRow}
+use Rattle.blocks.specs.Tries.{cutTries}
+use Rattle.blocks.specs.Uses.{cutUses}
+use Rattle.blocks.specs.Inner.UseRows.{cutUseRow}
 
 -- What the classing of cut h leaves in the rows of all cuts.
 pub record CutPlaced (n : ℕ) (table : List ℤ) (h : ℕ) (classRow firstRow triedRow usesRow useCountRow : List ℕ) (known : ℕ) (classRow′ firstRow′ triedRow′ usesRow′ useCountRow′ : List ℕ) : Type 0 where

@@ -5,8 +5,8 @@ use mathlib.Core.List.{List}
 use lib.ListN.{length}
 use lib.IntN.{ℤ}
 use Rattle.blocks.specs.Inner.Layout.{cutPlace}
-use Rattle.tries.specs.Inner.Rows.{allTries}
-use Rattle.uses.specs.Inner.Rows.{allUses, allUseRows}
+use Rattle.blocks.specs.Inner.TryRows.{allTries}
+use Rattle.blocks.specs.Inner.UseRows.{allUses, allUseRows}
 
 -- Rows for how many classes were tried for each block, how many blocks up to and including it have its class, and how many have each
 -- class.

@@ -15,13 +15,13 @@ use Rattle.numbers.specs.Laws.Overwriting.{take-overwritten, length-overwritten
 use Rattle.numbers.specs.Laws.Selections.{flatMap-append}
 use Rattle.blocks.specs.Classes.{classCount}
 use Rattle.blocks.specs.Inner.Layout.{cutNumbers, cutFirsts, allNumbers, allFirsts, allCounts, cutPlace, CutsRoom, AllClassed}
-use Rattle.tries.specs.Tries.{cutTries}
-use Rattle.tries.specs.Inner.Rows.{allTries}
-use Rattle.tries.specs.Laws.Rows.{length-cut-tries}
-use Rattle.uses.specs.Uses.{cutUses}
-use Rattle.uses.specs.Inner.Rows.{cutUseRow, allUses, allUseRows}
-use Rattle.uses.specs.Laws.Rows.{length-cut-uses, length-cut-use-row}
-use Rattle.cuts.specs.Laws.Noting.{all-noted}
+use Rattle.blocks.specs.Tries.{cutTries}
+use Rattle.blocks.specs.Inner.TryRows.{allTries}
+use Rattle.blocks.specs.Laws.TryRows.{length-cut-tries}
+use Rattle.blocks.specs.Uses.{cutUses}
+use Rattle.blocks.specs.Inner.UseRows.{cutUseRow, allUses, allUseRows}
+use Rattle.blocks.specs.Laws.UseRows.{length-cut-uses, length-cut-use-row}
+use Rattle.classes.specs.Laws.Noting.{all-noted}
 use Rattle.classes.specs.Inner.Placing.{CutPlaced}
 use Rattle.classes.specs.Inner.Searched.{SearchRoom, AllSearched}
 use Rattle.blocks.specs.Laws.Cuts.{length-cut-numbers, length-cut-firsts, cut-end, cut-within}

@@ -17,16 +17,16 @@ use Rattle.blocks.specs.Blocks.{block, blocks, differences}
 use Rattle.blocks.specs.Classes.{distinct, classes, classCount}
 use Rattle.blocks.specs.Inner.Layout.{part, numbersOf, firstsOf, cutNumbers, cutFirsts, cutPlace, CutsRoom}
 use Rattle.blocks.specs.Laws.Cuts.{length-cut-numbers, length-cut-firsts, cut-within, cut-whole}
-use Rattle.tries.specs.Tries.{triesOf, cutTries}
-use Rattle.tries.specs.Laws.Rows.{length-cut-tries}
-use Rattle.uses.specs.Uses.{usesOf, classesAt, cutUses}
-use Rattle.uses.specs.Inner.Rows.{useRow, cutUseRow}
-use Rattle.uses.specs.Laws.Rows.{length-cut-uses, length-cut-use-row, classes-are}
-use Rattle.classing.specs.Inner.Block.{cutRows}
-use Rattle.cuts.specs.Inner.Classing.{CutRoom, CutClassed}
+use Rattle.blocks.specs.Tries.{triesOf, cutTries}
+use Rattle.blocks.specs.Laws.TryRows.{length-cut-tries}
+use Rattle.blocks.specs.Uses.{usesOf, classesAt, cutUses}
+use Rattle.blocks.specs.Inner.UseRows.{useRow, cutUseRow}
+use Rattle.blocks.specs.Laws.UseRows.{length-cut-uses, length-cut-use-row, classes-are}
+use Rattle.classes.specs.Inner.Block.{cutRows}
+use Rattle.classes.specs.Inner.Classing.{CutRoom, CutClassed}
 use Rattle.classes.specs.Inner.Placing.{CutPlaced}
 use Rattle.classes.specs.Inner.Searched.{SearchRoom}
-use Rattle.search.specs.Inner.Searching.{partDifferences}
+use Rattle.classes.specs.Inner.Searching.{partDifferences}
 
 module _ (n h : ℕ) (cut : h ≤ n) where
   -- The blocks of cut h are the parts of size 2^(n-h).

@@ -3,9 +3,9 @@ use mathlib.Core.Path.{refl, _∙_, ap, subst⁻¹}
 use borrow.Author.Needs.{needs}
 use Rattle.cascade.specs.Compile.{Compiles}
 use Rattle.cascade.specs.declared.Compiled.{Compiled}
-use Rattle.placing.specs.Inner.Placing.{notCompiled, refusalOf}
+use Rattle.compiler.specs.Inner.Placing.{notCompiled, refusalOf}
 use Rattle.cascade.specs.Laws.Planned.{plan-refused, planned-groups}
-use Rattle.placing.specs.Laws.Compiles.{handed-on, placed-compiles}
+use Rattle.compiler.specs.Laws.Compiles.{handed-on, placed-compiles}
 use Rattle.compiler.specs.Laws.Ready.{table-ready}
 use Rattle.compiler.proofs.compile.Statement.{statement}
 use Rattle.compiler.proofs.compile.Tie as tie

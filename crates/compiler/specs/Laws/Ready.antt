@@ -23,7 +23,7 @@ use Rattle.cascade.specs.Laws.Cells.{variables-most}
 use Rattle.cascade.specs.Laws.Planned.{plan-chosen, plan-accepts, groups-are}
 use Rattle.planner.specs.Inner.Rows.{isClassed, RowsRoom, RowsLeft}
 use Rattle.planner.specs.Laws.Rows.{classed}
-use Rattle.placing.specs.Inner.Placing.{TableReady}
+use Rattle.compiler.specs.Inner.Placing.{TableReady}
 
 -- The front of a row that was overwritten, and its length.
 front-of : {A : Type 0} (row new : List A) → take (length new) (overwritten row 0 new) ≡ new

@@ -26,10 +26,10 @@ use Rattle.cascade.specs.declared.Choice.the-variants.{NoList, Costing}
 use Rattle.cascade.specs.Laws.Cheapest.{sizes-step, sizes-end}
 use Rattle.cascade.specs.Laws.Chosen.{chosen-by-choices, choice-top-cost}
 use Rattle.cascade.specs.Laws.Planned.{groups-back}
-use Rattle.cells.specs.Inner.Listed.{chosenCells, ChoicesKnown, CellChosen, ListChosen, listedPlan}
+use Rattle.planner.specs.Inner.Listed.{chosenCells, ChoicesKnown, CellChosen, ListChosen, listedPlan}
 use Rattle.planner.specs.Inner.Rows.{refusedPlan}
-use Rattle.cells.specs.Laws.Leading.{leads, size-is, cell-is}
-use Rattle.cells.specs.Laws.Listed.{cells-step, cells-end}
+use Rattle.planner.specs.Laws.Leading.{leads, size-is, cell-is}
+use Rattle.planner.specs.Laws.Listed.{cells-step, cells-end}
 
 -- ---- refusals
 

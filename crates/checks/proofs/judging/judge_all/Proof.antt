@@ -4,7 +4,7 @@ use mathlib.Core.List.{List}
 use native.Mathlib.Omega.{arith}
 use lib.ListN.{length}
 use borrow.Author.Needs.{needs}
-use Rattle.case_lines.specs.Laws.Text.{behind-within, behind-further}
+use Rattle.cases.specs.Laws.Text.{behind-within, behind-further}
 use Rattle.checks.proofs.judging.judge_all.Statement.{statement}
 use Rattle.checks.proofs.judging.judge_all.Tie as tie
 

@@ -6,8 +6,8 @@ use lib.ListN.{length, length-replicate}
 use lib.Seq.{length-take-le}
 use lib.IntN.{pos}
 use borrow.Author.Needs.{needs}
-use Rattle.case_lines.specs.Text.{lineNumbers}
-use Rattle.case_lines.specs.Laws.Text.{count-within, row-taken}
+use Rattle.cases.specs.Text.{lineNumbers}
+use Rattle.cases.specs.Laws.Text.{count-within, row-taken}
 use Rattle.checks.specs.Cases.{casePasses, linePasses}
 use Rattle.checks.proofs.judging.judge_line.Statement.{statement}
 use Rattle.checks.proofs.judging.judge_line.Tie as tie

@@ -7,8 +7,8 @@ use Rattle.cascade.specs.Plan.{Plans}
 use Rattle.cascade.specs.Inner.Choices.{tableChoice}
 use Rattle.cascade.specs.declared.Choice.the-variants.{NoList}
 use Rattle.cascade.specs.declared.Planned.{Planned}
-use Rattle.cells.specs.Inner.Listed.{ChoicesKnown, ListChosen}
-use Rattle.cells.specs.Laws.Leading.{array-at}
+use Rattle.planner.specs.Inner.Listed.{ChoicesKnown, ListChosen}
+use Rattle.planner.specs.Laws.Leading.{array-at}
 use Rattle.planner.specs.Laws.Plans.{refused-plans, plan-none, listed-plans}
 use Rattle.planner.proofs.planning.plan_cuts.Statement.{statement}
 use Rattle.planner.proofs.planning.plan_cuts.Tie as tie

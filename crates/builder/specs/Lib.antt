@@ -1,0 +1,2 @@
+-- builder.
+pub mod Laws

@@ -1,3 +1,0 @@
--- What rows hold. Laws has what is proved of it.
-pub mod Rows
-pub mod Laws

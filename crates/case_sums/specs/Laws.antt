@@ -1,2 +1,0 @@
--- Laws about the definitions of this crate, which proofs cite.
-pub mod Cases

@@ -1,3 +1,0 @@
--- When a case of Sum or Remainder passes.
-pub mod Cases
-pub mod Laws

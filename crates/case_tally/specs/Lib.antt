@@ -1,2 +1,0 @@
--- The count of the cases.
-pub mod Tallies

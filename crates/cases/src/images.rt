@@ -1,0 +1,76 @@
+// The cases of Run and Expand.
+ghost use mathlib.Core.Path.{_≡_};
+ghost use Rattle.image.specs.Run.{ran, expanded};
+ghost use Rattle.cases.specs.ImageCases.{ranIs, runPasses, expandedIs, expandPasses};
+use image::Expanded;
+use image::Ran;
+
+// Whether Run's answer is the expected one.
+pub fn ran_is(refusal: usize, value: i32, words: usize, answer: Ran) -> bool
+    ensures { λ r. ⌜ r ≡ ranIs refusal value words (ran answer) ⌝ }
+{
+    match answer {
+        Ran::Value {
+            value: found,
+            words: read,
+        } => {
+            if refusal != 0 {
+                return false;
+            }
+            if words != read {
+                return false;
+            }
+            found == value
+        }
+        Ran::Refused(number) => refusal == number as usize,
+    }
+}
+
+// Whether Run answers so.
+pub fn run(numbers: &[i32], image: &[i32]) -> bool
+    ensures { λ r. ⌜ r ≡ runPasses (now (numbers .entry)) (now (image .entry)) ⌝ }
+{
+    let mut bytes = [0u8; 512];
+    if bytes.len() < image.len() {
+        return false;
+    }
+    crate::fronts::put_bytes(&mut bytes, image);
+    let x = crate::rows::size_at(numbers, 1);
+    let answer = runner::run(&bytes[..image.len()], x);
+    let refusal = crate::rows::size_at(numbers, 2);
+    let value = crate::rows::number_at(numbers, 3, 0);
+    let words = crate::rows::size_at(numbers, 4);
+    ran_is(refusal, value, words, answer)
+}
+
+// Whether Expand's answer is the expected one.
+fn expanded_is(numbers: &[i32], answer: Expanded) -> bool
+    ensures { λ r. ⌜ r ≡ expandedIs (now (numbers .entry)) (expanded answer) ⌝ }
+{
+    let refusal = crate::rows::size_at(numbers, 2);
+    match answer {
+        Expanded::Table => refusal == 0,
+        Expanded::Refused(number) => refusal == number as usize,
+    }
+}
+
+// Whether Expand answers so, and leaves these values in front of the lent table.
+pub fn expand(numbers: &[i32], image: &[i32], front: &[i32]) -> bool
+    ensures { λ r. ⌜ r ≡ expandPasses (now (numbers .entry)) (now (image .entry)) (now (front .entry)) ⌝ }
+{
+    let mut bytes = [0u8; 512];
+    if bytes.len() < image.len() {
+        return false;
+    }
+    crate::fronts::put_bytes(&mut bytes, image);
+    let places = crate::rows::size_at(numbers, 1);
+    let mut lent = [crate::fronts::NUMBER; 4096];
+    if lent.len() < places {
+        return false;
+    }
+    let answer = runner::expand(&bytes[..image.len()], &mut lent[..places]);
+    if !expanded_is(numbers, answer) {
+        return false;
+    }
+    crate::fronts::numbers_hold(&lent[..places], front)
+}

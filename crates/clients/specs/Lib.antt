@@ -1,3 +1,0 @@
--- What the clients promise, and Laws of it.
-pub mod Clients
-pub mod Laws

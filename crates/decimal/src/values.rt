@@ -1,0 +1,84 @@
+// The values of a text, read into a row and written as the input's bytes.
+ghost use mathlib.Core.Path.{_≡_};
+ghost use mathlib.Core.List.{flatMap};
+ghost use Prim.Native.Nat.{_+_, _*_, _≤_};
+ghost use lib.ListN.{length};
+ghost use Rattle.numbers.specs.Inner.Rows.{overwritten};
+ghost use Rattle.operands.specs.Bytes.{signedBytes};
+ghost use Rattle.decimal.specs.Table.{inputOf};
+ghost use Rattle.decimal.specs.Inner.Places.{PlaceIn};
+ghost use Rattle.decimal.specs.Inner.Values.{valuesAt, checked, ReadsValues, InputReady};
+use crate::Checked;
+use crate::Expected;
+use crate::Item;
+use crate::Place;
+
+// That no word is left from a place on.
+fn check_end(text: &[u8], place: Place) -> Checked
+    requires { ⌜ PlaceIn (now text) place ⌝ }
+    ensures { λ r. ⌜ r ≡ checked (valuesAt (now (text .entry)) place 0) ⌝ }
+{
+    let next = crate::words::skip(text, place);
+    if text.len() <= next.at {
+        return Checked::Good;
+    }
+    Checked::Wrong {
+        line: next.line,
+        expected: Expected::TextEnd,
+    }
+}
+
+// So many values from a place on, into the front of the lent row, and then nothing more. Where the text goes wrong the row has
+// those before.
+pub fn read_values(text: &[u8], start: Place, count: usize, values: &mut [i32]) -> Checked
+    requires { ⌜ PlaceIn (now text) start ⌝ }
+    requires { ⌜ count ≤ length (now values) ⌝ }
+    ensures { λ r. ⌜ ReadsValues (now (text .entry)) start count (now (values .entry)) r (now (values .exit)) ⌝ }
+{
+    let mut place = start;
+    let mut j = 0;
+    while j < count {
+        match crate::words::next_item(text, place) {
+            Item::Valued { number, line, at } => {
+                values[j] = number;
+                place = Place { at, line };
+            }
+            Item::Other { line } => {
+                return Checked::Wrong {
+                    line,
+                    expected: Expected::Value,
+                };
+            }
+            Item::Ended { line } => {
+                return Checked::Wrong {
+                    line,
+                    expected: Expected::Value,
+                };
+            }
+        }
+        j += 1;
+    }
+    check_end(text, place)
+}
+
+// The bytes of values, from the third on.
+fn write_values(input: &mut [u8], values: &[i32])
+    requires { ⌜ 2 + 4 * length (now values) ≤ length (now input) ⌝ }
+    ensures { λ _. ⌜ now (input .exit) ≡ overwritten (now (input .entry)) 2 (flatMap signedBytes (now (values .entry))) ⌝ }
+{
+    let mut j = 0;
+    while j < values.len() {
+        operands::writing::write_signed(input, 2 + 4 * j, values[j]);
+        j += 1;
+    }
+}
+
+// The bytes of a table, in front.
+pub fn write_input(input: &mut [u8], n: usize, limit: usize, values: &[i32])
+    requires { ⌜ InputReady n limit (now values) (now input) ⌝ }
+    ensures { λ _. ⌜ now (input .exit) ≡ overwritten (now (input .entry)) 0 (inputOf (record { n = n; limit = limit; values = now (values .entry) })) ⌝ }
+{
+    input[0] = n as u8;
+    input[1] = limit as u8;
+    write_values(input, values);
+}

@@ -1,0 +1,87 @@
+// The words of a text, one after the other.
+ghost use mathlib.Core.Path.{_≡_};
+ghost use Prim.Native.Nat.{_+_, _≤_};
+ghost use lib.ListN.{length, drop};
+ghost use Rattle.decimal.specs.Words.{isBlank};
+ghost use Rattle.decimal.specs.Inner.Places.{isSeparator, PlaceIn, skipped, wordLength};
+ghost use Rattle.decimal.specs.Inner.Items.{itemAt};
+use crate::Item;
+use crate::Number;
+use crate::Place;
+
+fn is_blank(byte: u8) -> bool
+    ensures { λ r. ⌜ r ≡ isBlank byte ⌝ }
+{
+    if byte == b' ' {
+        return true;
+    }
+    if byte == b'\t' {
+        return true;
+    }
+    byte == b'\r'
+}
+
+fn is_separator(byte: u8) -> bool
+    ensures { λ r. ⌜ r ≡ isSeparator byte ⌝ }
+{
+    if byte == b'\n' {
+        return true;
+    }
+    is_blank(byte)
+}
+
+// Past the blanks and newlines from a place on.
+pub fn skip(text: &[u8], place: Place) -> Place
+    requires { ⌜ PlaceIn (now text) place ⌝ }
+    ensures { λ r. ⌜ r ≡ skipped (now (text .entry)) place ⌝ }
+{
+    let mut at = place.at;
+    let mut line = place.line;
+    while at < text.len() {
+        if !is_separator(text[at]) {
+            return Place { at, line };
+        }
+        if text[at] == b'\n' {
+            line += 1;
+        }
+        at += 1;
+    }
+    Place { at, line }
+}
+
+// The end of the word that starts at a place.
+fn word_end(text: &[u8], start: usize) -> usize
+    requires { ⌜ start ≤ length (now text) ⌝ }
+    ensures { λ r. ⌜ r ≡ start + wordLength (drop start (now (text .entry))) ⌝ }
+{
+    let mut at = start;
+    while at < text.len() {
+        if is_separator(text[at]) {
+            return at;
+        }
+        at += 1;
+    }
+    at
+}
+
+// What comes next, from a place on.
+pub fn next_item(text: &[u8], place: Place) -> Item
+    requires { ⌜ PlaceIn (now text) place ⌝ }
+    ensures { λ r. ⌜ r ≡ itemAt (now (text .entry)) place ⌝ }
+{
+    let first = skip(text, place);
+    let start = first.at;
+    let line = first.line;
+    if text.len() <= start {
+        return Item::Ended { line };
+    }
+    let end = word_end(text, start);
+    match crate::numerals::word_number(&text[start..end]) {
+        Number::Whole(number) => Item::Valued {
+            number,
+            line,
+            at: end,
+        },
+        Number::NotWhole => Item::Other { line },
+    }
+}

@@ -1,0 +1,12 @@
+// exports.
+pub mod build_walk;
+pub mod class_cuts;
+pub mod pair_run;
+pub mod plan_compile;
+pub mod reach_cuts;
+pub mod report_part;
+pub mod run_expand;
+pub mod run_results;
+pub mod sizes;
+pub mod sum_remainder;
+pub mod widths;

@@ -1,0 +1,58 @@
+// The sizes that rows lent by a caller must have.
+ghost use mathlib.Core.Path.{_≡_};
+ghost use mathlib.Core.List.{[], _∷_};
+ghost use lib.Dec.{eqb};
+ghost use Rattle.numbers.specs.Lists.{every};
+ghost use Rattle.exports.specs.Classing.{sizesFit};
+
+// Whether five rows, given by their lengths, have so many places each.
+fn rows_have(
+    places: usize,
+    classes: usize,
+    firsts: usize,
+    tried: usize,
+    uses: usize,
+    use_counts: usize,
+) -> bool
+    ensures { λ r. ⌜ r ≡ every (eqb places) (classes ∷ firsts ∷ tried ∷ uses ∷ «use_counts» ∷ []) ⌝ }
+{
+    if places != classes {
+        return false;
+    }
+    if places != firsts {
+        return false;
+    }
+    if places != tried {
+        return false;
+    }
+    if places != uses {
+        return false;
+    }
+    places == use_counts
+}
+
+// Whether a table, the row of counts and five other rows, given by their lengths, have the sizes that the classes of all cuts need.
+pub(crate) fn sizes_fit(
+    n: usize,
+    values: usize,
+    cuts: usize,
+    classes: usize,
+    firsts: usize,
+    tried: usize,
+    uses: usize,
+    use_counts: usize,
+) -> bool
+    ensures { λ r. ⌜ r ≡ sizesFit n values cuts (classes ∷ firsts ∷ tried ∷ uses ∷ «use_counts» ∷ []) ⌝ }
+{
+    if 12 < n {
+        return false;
+    }
+    if values != numbers::arithmetic::power(n) {
+        return false;
+    }
+    if cuts != n + 1 {
+        return false;
+    }
+    let places = numbers::arithmetic::power(n + 1) - 1;
+    rows_have(places, classes, firsts, tried, uses, use_counts)
+}

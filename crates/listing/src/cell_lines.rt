@@ -1,0 +1,54 @@
+// The lines of a cascade: its cells and their bits.
+ghost use Prim.Native.Nat.{_+_, _^_, _≤_, _<_};
+ghost use lib.ListN.{length};
+ghost use Rattle.lines.specs.Inner.Writing.{Writes};
+ghost use Rattle.listing.specs.Inner.CellLines.{planLine, planLines, cascadeText, CellSmall, CellsSmall};
+use cascade::Cell;
+
+// The line of a cell at a place. Answers the place behind it.
+fn write_cell(text: &mut [u8], at: usize, cell: Cell) -> usize
+    requires { ⌜ CellSmall cell ⌝ }
+    requires { ⌜ at + length (planLine cell) ≤ length (now text) ⌝ }
+    ensures { λ r. ⌜ Writes (now (text .entry)) at (planLine cell) r (now (text .exit)) ⌝ }
+{
+    let numbers = [
+        cell.group as i32,
+        cell.incoming as i32,
+        cell.outgoing as i32,
+        cell.width as i32,
+        cell.bits as i32,
+    ];
+    lines::fields::write_line(text, at, b"cell", &numbers)
+}
+
+// The lines of the first so many cells at a place, from the top cell down. Answers the place behind them.
+fn write_cells(text: &mut [u8], at: usize, cells: [Cell; 12], count: usize) -> usize
+    requires { ⌜ CellsSmall cells count ⌝ }
+    requires { ⌜ at + length (planLines cells count) ≤ length (now text) ⌝ }
+    ensures { λ r. ⌜ Writes (now (text .entry)) at (planLines cells count) r (now (text .exit)) ⌝ }
+{
+    let mut next = at;
+    let mut k = 0;
+    while k < count {
+        let cell = cells[k];
+        next = write_cell(text, next, cell);
+        k += 1;
+    }
+    next
+}
+
+// The cell lines and the total bits at a place. Answers the place behind them.
+pub fn write_cascade(
+    text: &mut [u8],
+    at: usize,
+    cells: [Cell; 12],
+    count: usize,
+    bits: usize,
+) -> usize
+    requires { ⌜ (bits < 2 ^ 31) × CellsSmall cells count ⌝ }
+    requires { ⌜ at + length (cascadeText cells count bits) ≤ length (now text) ⌝ }
+    ensures { λ r. ⌜ Writes (now (text .entry)) at (cascadeText cells count bits) r (now (text .exit)) ⌝ }
+{
+    let next = write_cells(text, at, cells, count);
+    lines::fields::write_count(text, next, b"bits", bits)
+}

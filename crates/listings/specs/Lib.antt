@@ -1,4 +1,0 @@
--- What the listing program keeps of its input, and what it makes of the kept bytes.
-pub mod Input
-pub mod Text
-pub mod Laws

@@ -1,0 +1,68 @@
+// Powers of two, magnitudes, and numbers beside each other: what the other crates reckon with.
+ghost use mathlib.Core.Path.{_≡_};
+ghost use Prim.Native.Nat.{_^_, _<_};
+ghost use lib.Signed.{mag};
+ghost use Rattle.numbers.specs.Ranges.{isVariables, isLimit, within, lesser, greater};
+
+// n both for n and for -(n + 1).
+pub fn magnitude(weight: i32) -> u32
+    ensures { λ r. ⌜ r ≡ mag weight ⌝ }
+{
+    if weight < 0 {
+        (-1 - weight) as u32
+    } else {
+        weight as u32
+    }
+}
+
+// 2^k.
+pub fn power(k: usize) -> usize
+    requires { ⌜ k < 64 ⌝ }
+    ensures { λ r. ⌜ r ≡ 2 ^ k ⌝ }
+{
+    1usize << k
+}
+
+// Whether n is a number of variables.
+pub fn is_variables(n: usize) -> bool
+    ensures { λ r. ⌜ r ≡ isVariables n ⌝ }
+{
+    if n < 1 {
+        return false;
+    }
+    n <= 12
+}
+
+// Whether a number is an address limit.
+pub fn is_limit(limit: usize) -> bool
+    ensures { λ r. ⌜ r ≡ isLimit limit ⌝ }
+{
+    if limit < 1 {
+        return false;
+    }
+    limit <= 12
+}
+
+// Whether a number lies within a range.
+pub fn is_within(low: i32, high: i32, number: i32) -> bool
+    ensures { λ r. ⌜ r ≡ within low high number ⌝ }
+{
+    if low <= number {
+        return number <= high;
+    }
+    false
+}
+
+// The lesser of two numbers.
+pub fn lesser_of(a: i32, b: i32) -> i32
+    ensures { λ r. ⌜ r ≡ lesser a b ⌝ }
+{
+    if a <= b { a } else { b }
+}
+
+// The greater of two numbers.
+pub fn greater_of(a: i32, b: i32) -> i32
+    ensures { λ r. ⌜ r ≡ greater a b ⌝ }
+{
+    if a <= b { b } else { a }
+}

@@ -1,3 +1,0 @@
--- What inner functions promise and hold.
-pub mod Extremes
-pub mod Ready

@@ -1,2 +1,0 @@
--- Laws about ranges, which proofs cite.
-pub mod Gathering

@@ -1,0 +1,38 @@
+// What Reach answers, from the class counts of all cuts.
+ghost use mathlib.Core.Path.{_≡_};
+ghost use Prim.Native.Nat.{suc, _≤_};
+ghost use Rattle.numbers.specs.Lists.{numbersFrom, padded};
+ghost use Rattle.reach.specs.Inner.NarrowCells.{CountsReady};
+ghost use Rattle.reach.specs.Inner.Counts.{reachedIn};
+use crate::Reached;
+use crate::Verdict;
+
+// The cuts from 0 to the last one, and 0 behind them.
+fn list_cuts(last: usize) -> [usize; 13]
+    requires { ⌜ last ≤ 12 ⌝ }
+    ensures { λ r. ⌜ r ≡ padded 13 0 (numbersFrom 0 (suc last)) ⌝ }
+{
+    let mut cuts = [0usize; 13];
+    let mut h = 0;
+    while h <= last {
+        cuts[h] = h;
+        h += 1;
+    }
+    cuts
+}
+
+// The cuts and the least limit.
+pub fn reach_counts(n: usize, limit: usize, counts: &[usize]) -> Reached
+    requires { ⌜ CountsReady n (now counts) ⌝ }
+    ensures { λ r. ⌜ r ≡ reachedIn n limit (now (counts .entry)) ⌝ }
+{
+    let last = crate::narrow_cells::furthest_cut(n, limit, counts);
+    let least = crate::narrow_cells::least_limit(n, counts);
+    Reached {
+        verdict: Verdict::Cuts {
+            count: last + 1,
+            least,
+        },
+        cuts: list_cuts(last),
+    }
+}

@@ -1,2 +1,0 @@
--- What inner functions promise and hold.
-pub mod Checks

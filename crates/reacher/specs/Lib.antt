@@ -1,3 +1,0 @@
--- What Reach answers is defined in reach. Inner has what inner functions promise and hold, Laws what is proved of it.
-pub mod Inner
-pub mod Laws

@@ -1,0 +1,2 @@
+-- Inner.
+pub mod Tops

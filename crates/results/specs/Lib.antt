@@ -1,3 +1,0 @@
--- How an answer comes back through C.
-pub mod Laws
-pub mod Results

@@ -1,3 +1,0 @@
--- What comes back of Run's answer through C.
-pub mod Given
-pub mod Laws

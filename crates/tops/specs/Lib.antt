@@ -1,3 +1,0 @@
--- Paths are defined in the crate diagram. Inner has what the functions promise, Laws what is proved of it.
-pub mod Inner
-pub mod Laws

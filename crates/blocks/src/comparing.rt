@@ -33,7 +33,7 @@ fn same_less(left: &[i32], constant: i64, right: &[i32]) -> bool
 }
 
 // Whether two blocks are equal value by value.
-pub fn same_values(left: &[i32], right: &[i32]) -> bool
+fn same_values(left: &[i32], right: &[i32]) -> bool
     ensures { λ r. ⌜ r ≡ same (now (left .entry)) (now (right .entry)) ⌝ }
 {
     same_less(left, 0, right)

@@ -2,6 +2,11 @@
 pub mod comparing;
 pub mod uses;
 
+// The cuts of the largest table, and the places that the blocks of all its cuts have in a row.
+pub const ALL_CUTS: usize = numbers::MOST_VARIABLES + 1;
+
+pub const ALL_PLACES: usize = 2 * numbers::MOST_VALUES - 1;
+
 ghost use mathlib.Core.Path.{_≡_};
 ghost use Prim.Native.Nat.{_+_, _*_, _^_, _<_};
 ghost use lib.ListN.{length, getD};

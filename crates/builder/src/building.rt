@@ -18,7 +18,7 @@ fn write_records(
     requires { ⌜ BuildReady n (now table) (now classes) (now firsts) (now counts) (now nodes) ⌝ }
     ensures { λ r. ⌜ AllRecorded n (now (table .entry)) (now (nodes .entry)) r (now (nodes .exit)) ⌝ }
 {
-    let mut row = [0usize; 8191];
+    let mut row = [0usize; blocks::ALL_PLACES];
     let mut made = 0;
     let mut i = 0;
     while i < n {
@@ -52,7 +52,7 @@ fn record_table(
     ensures { λ r. ⌜ AllRecorded n (now (table .entry)) (now (nodes .entry)) r (now (nodes .exit)) ⌝ }
     ensures { λ r. ⌜ AllClassed n (now (table .entry)) (now (classes .exit)) (now (firsts .exit)) (now (counts .exit)) ⌝ }
 {
-    let mut use_counts = [0usize; 8191];
+    let mut use_counts = [0usize; blocks::ALL_PLACES];
     let places = classes.len();
     classes::class_table(n, table, classes, firsts, counts, &mut use_counts[..places]);
     write_records(n, table, classes, firsts, counts, nodes)
@@ -66,9 +66,9 @@ pub(crate) fn build_checked(n: usize, table: &[i32], nodes: &mut [i32]) -> Built
     if nodes.len() < diagram::records::node_room(n) {
         return Built::Refused(4);
     }
-    let mut classes = [0usize; 8191];
-    let mut firsts = [0usize; 8191];
-    let mut counts = [0usize; 13];
+    let mut classes = [0usize; blocks::ALL_PLACES];
+    let mut firsts = [0usize; blocks::ALL_PLACES];
+    let mut counts = [0usize; blocks::ALL_CUTS];
     let cuts = n + 1;
     let size = numbers::arithmetic::power(cuts) - 1;
     let made = record_table(

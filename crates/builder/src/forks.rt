@@ -43,7 +43,7 @@ pub fn class_branches(n: usize, h: usize, c: usize, table: &[i32], firsts: &[usi
 }
 
 // The fork of class c of cut h, read at the class's first block.
-pub fn fork_at(
+pub(crate) fn fork_at(
     n: usize,
     h: usize,
     c: usize,

@@ -1,8 +1,8 @@
 // Build: the reduced diagram of a table, from the classes of its cuts.
 mod building;
 pub mod forks;
-pub mod ranges;
-pub mod recorder;
+mod ranges;
+mod recorder;
 
 ghost use Rattle.diagram.specs.Build.{Builds};
 use diagram::Built;

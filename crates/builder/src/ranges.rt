@@ -28,7 +28,7 @@ fn range_of(values: &[i32]) -> Range
 }
 
 // The range of class c of cut h, read at the class's first block.
-pub fn class_range(n: usize, h: usize, c: usize, table: &[i32], firsts: &[usize]) -> Range
+pub(crate) fn class_range(n: usize, h: usize, c: usize, table: &[i32], firsts: &[usize]) -> Range
     requires { ⌜ ClassOfCut n h c (now table) (now firsts) ⌝ }
     ensures { λ r. ⌜ r ≡ rangeOf (classAt n (now (table .entry)) h c) ⌝ }
 {

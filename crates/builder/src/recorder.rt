@@ -51,7 +51,7 @@ fn place_class(
 }
 
 // The classes of cut h get their nodes, and their records stand behind those made.
-pub fn place_cut(
+pub(crate) fn place_cut(
     n: usize,
     h: usize,
     count: usize,

@@ -4,15 +4,20 @@ ghost use mathlib.Core.List.{flatMap};
 ghost use Rattle.cascade.specs.Rows.{cellRow};
 use crate::Cell;
 
+// The numbers of a cell in a row, and of a row of all cells that a grouping can have.
+pub const CELL_NUMBERS: usize = 7;
+
+pub const ROW_NUMBERS: usize = CELL_NUMBERS * crate::MOST_CELLS;
+
 // Seven numbers for each cell: group, incoming count, outgoing count, weight width, bits, commonest outgoing class, its uses.
-pub fn cell_rows(cells: [Cell; 12]) -> [usize; 84]
+pub fn cell_rows(cells: [Cell; crate::MOST_CELLS]) -> [usize; ROW_NUMBERS]
     ensures { λ r. ⌜ r ≡ flatMap cellRow cells ⌝ }
 {
-    let mut rows = [0usize; 84];
+    let mut rows = [0usize; ROW_NUMBERS];
     let mut k = 0;
-    while k < 12 {
+    while k < crate::MOST_CELLS {
         let cell = cells[k];
-        let at = 7 * k;
+        let at = CELL_NUMBERS * k;
         rows[at] = cell.group;
         rows[at + 1] = cell.incoming;
         rows[at + 2] = cell.outgoing;

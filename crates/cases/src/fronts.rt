@@ -14,7 +14,7 @@ pub const NUMBER: i32 = -77;
 pub const BYTE: u8 = 165;
 
 // Whether a lent row holds these numbers, and behind them what it was lent with.
-pub fn numbers_hold(row: &[i32], front: &[i32]) -> bool
+pub(crate) fn numbers_hold(row: &[i32], front: &[i32]) -> bool
     ensures { λ r. ⌜ r ≡ frontHolds numberLent (now (row .entry)) (now (front .entry)) ⌝ }
 {
     if row.len() < front.len() {
@@ -31,7 +31,7 @@ pub fn numbers_hold(row: &[i32], front: &[i32]) -> bool
 }
 
 // The same of a lent row of bytes.
-pub fn bytes_hold(row: &[u8], front: &[i32]) -> bool
+pub(crate) fn bytes_hold(row: &[u8], front: &[i32]) -> bool
     ensures { λ r. ⌜ r ≡ frontHolds (pos byteLent) (map pos (now (row .entry))) (now (front .entry)) ⌝ }
 {
     if row.len() < front.len() {
@@ -48,7 +48,7 @@ pub fn bytes_hold(row: &[u8], front: &[i32]) -> bool
 }
 
 // Whether an answer's sizes are these, with 0 past the last.
-pub fn sizes_are(sizes: &[usize], expected: &[i32]) -> bool
+pub(crate) fn sizes_are(sizes: &[usize], expected: &[i32]) -> bool
     ensures { λ r. ⌜ r ≡ sizesAre (now (sizes .entry)) (now (expected .entry)) ⌝ }
 {
     if sizes.len() < expected.len() {
@@ -65,7 +65,7 @@ pub fn sizes_are(sizes: &[usize], expected: &[i32]) -> bool
 }
 
 // The numbers of a row as bytes, in front of a lent one that is no shorter.
-pub fn put_bytes(bytes: &mut [u8], row: &[i32])
+pub(crate) fn put_bytes(bytes: &mut [u8], row: &[i32])
     requires { ⌜ length (now row) ≤ length (now bytes) ⌝ }
     ensures { λ _. ⌜ now (bytes .exit) ≡ overwritten (now (bytes .entry)) 0 (map byteOf (now (row .entry))) ⌝ }
 {

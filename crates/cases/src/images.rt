@@ -6,7 +6,7 @@ use image::Expanded;
 use image::Ran;
 
 // Whether Run's answer is the expected one.
-pub fn ran_is(refusal: usize, value: i32, words: usize, answer: Ran) -> bool
+pub(crate) fn ran_is(refusal: usize, value: i32, words: usize, answer: Ran) -> bool
     ensures { λ r. ⌜ r ≡ ranIs refusal value words (ran answer) ⌝ }
 {
     match answer {

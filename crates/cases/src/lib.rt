@@ -2,7 +2,7 @@
 pub mod cascades;
 pub mod case_lines;
 pub mod diagrams;
-pub mod fronts;
+mod fronts;
 pub mod images;
 pub mod pair_runs;
 pub mod reaches;

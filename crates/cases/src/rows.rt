@@ -6,7 +6,7 @@ ghost use Rattle.numbers.specs.Ranges.{eqZ};
 ghost use Rattle.cases.specs.Rows.{sizeAt, twoSizesAre};
 
 // The number at a place of a row, and another past its last.
-pub fn number_at(row: &[i32], at: usize, past: i32) -> i32
+pub(crate) fn number_at(row: &[i32], at: usize, past: i32) -> i32
     ensures { λ r. ⌜ r ≡ getD (now (row .entry)) at past ⌝ }
 {
     if at < row.len() { row[at] } else { past }
@@ -21,14 +21,14 @@ pub fn size_at(row: &[i32], at: usize) -> usize
 }
 
 // Whether the number at a place, or the one past the last, is this one.
-pub fn is_at(row: &[i32], at: usize, past: i32, number: i32) -> bool
+pub(crate) fn is_at(row: &[i32], at: usize, past: i32, number: i32) -> bool
     ensures { λ r. ⌜ r ≡ eqZ number (getD (now (row .entry)) at past) ⌝ }
 {
     number == number_at(row, at, past)
 }
 
 // Whether a case expects no refusal and these two sizes: its numbers from place 3 on.
-pub fn two_sizes_are(numbers: &[i32], first: usize, second: usize) -> bool
+pub(crate) fn two_sizes_are(numbers: &[i32], first: usize, second: usize) -> bool
     ensures { λ r. ⌜ r ≡ twoSizesAre (now (numbers .entry)) first second ⌝ }
 {
     if size_at(numbers, 3) != 0 {

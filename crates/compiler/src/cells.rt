@@ -52,7 +52,7 @@ fn put_cell(
 // The cells from the top down, behind the table command. Answers the place behind them.
 fn write_cells(
     n: usize,
-    cells: [Cell; 12],
+    cells: [Cell; cascade::MOST_CELLS],
     count: usize,
     table: &[i32],
     classes: &[usize],
@@ -76,9 +76,9 @@ fn write_cells(
 }
 
 // The image of the first so many cells, with so many bits in all: the table command, the cells, the end.
-pub fn write_image(
+pub(crate) fn write_image(
     n: usize,
-    cells: [Cell; 12],
+    cells: [Cell; cascade::MOST_CELLS],
     count: usize,
     bits: usize,
     table: &[i32],

@@ -7,7 +7,7 @@ ghost use Rattle.image.specs.Commands.{commandBytes};
 ghost use Rattle.image.specs.declared.Command.the-variants as commands;
 
 // The table command, in front.
-pub fn write_table(buffer: &mut [u8], n: usize, offset: i32)
+pub(crate) fn write_table(buffer: &mut [u8], n: usize, offset: i32)
     requires { ⌜ (6 ≤ length (now buffer)) × (n < 256) ⌝ }
     ensures { λ _. ⌜ now (buffer .exit) ≡ overwritten (now (buffer .entry)) 0 (commandBytes (commands.Table n offset)) ⌝ }
 {
@@ -17,7 +17,13 @@ pub fn write_table(buffer: &mut [u8], n: usize, offset: i32)
 }
 
 // A cell's own command, in front.
-pub fn write_head(buffer: &mut [u8], group: usize, incoming: usize, outgoing: usize, width: usize)
+pub(crate) fn write_head(
+    buffer: &mut [u8],
+    group: usize,
+    incoming: usize,
+    outgoing: usize,
+    width: usize,
+)
     requires { ⌜ (7 ≤ length (now buffer)) × ((group < 256) × (width < 256)) ⌝ }
     ensures { λ _. ⌜ now (buffer .exit) ≡ overwritten (now (buffer .entry)) 0 (commandBytes (commands.Cell group incoming outgoing width)) ⌝ }
 {
@@ -29,7 +35,7 @@ pub fn write_head(buffer: &mut [u8], group: usize, incoming: usize, outgoing: us
 }
 
 // A word at a place.
-pub fn write_word(buffer: &mut [u8], at: usize, class: usize, weight: i32)
+pub(crate) fn write_word(buffer: &mut [u8], at: usize, class: usize, weight: i32)
     requires { ⌜ at + 7 ≤ length (now buffer) ⌝ }
     ensures { λ _. ⌜ now (buffer .exit) ≡ overwritten (now (buffer .entry)) at (commandBytes (commands.Word class weight)) ⌝ }
 {
@@ -39,7 +45,7 @@ pub fn write_word(buffer: &mut [u8], at: usize, class: usize, weight: i32)
 }
 
 // The last command, at a place.
-pub fn write_end(buffer: &mut [u8], at: usize, bits: usize)
+pub(crate) fn write_end(buffer: &mut [u8], at: usize, bits: usize)
     requires { ⌜ at + 5 ≤ length (now buffer) ⌝ }
     ensures { λ _. ⌜ now (buffer .exit) ≡ overwritten (now (buffer .entry)) at (commandBytes (commands.End bits)) ⌝ }
 {

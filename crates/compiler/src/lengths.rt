@@ -13,7 +13,7 @@ fn cell_length(cell: Cell) -> usize
 }
 
 // The bytes of the image of the first so many cells.
-pub fn image_length(cells: [Cell; 12], count: usize) -> usize
+pub(crate) fn image_length(cells: [Cell; cascade::MOST_CELLS], count: usize) -> usize
     requires { ⌜ SmallCells cells count ⌝ }
     ensures { λ r. ⌜ r ≡ plannedLength (take count cells) ⌝ }
 {

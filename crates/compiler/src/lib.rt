@@ -1,10 +1,10 @@
 // Compile: the image of the least-cost grouping of a table, written into a lent buffer.
-pub mod cells;
-pub mod commands;
-pub mod lengths;
-pub mod nodes;
-pub mod placing;
-pub mod words;
+mod cells;
+mod commands;
+mod lengths;
+mod nodes;
+mod placing;
+mod words;
 
 ghost use Rattle.cascade.specs.Compile.{Compiles};
 use cascade::Compiled;
@@ -15,9 +15,9 @@ use cascade::Verdict;
 pub fn compile(n: usize, table: &[i32], limit: usize, image: &mut [u8]) -> Compiled
     ensures { λ r. ⌜ Compiles n (now (table .entry)) limit (now (image .entry)) r (now (image .exit)) ⌝ }
 {
-    let mut classes = [0usize; 8191];
-    let mut firsts = [0usize; 8191];
-    let mut counts = [0usize; 13];
+    let mut classes = [0usize; blocks::ALL_PLACES];
+    let mut firsts = [0usize; blocks::ALL_PLACES];
+    let mut counts = [0usize; blocks::ALL_CUTS];
     let planned = planner::plan_in(n, table, limit, &mut classes, &mut firsts, &mut counts);
     let verdict = planned.verdict;
     let Verdict::Grouping { cells, bits } = verdict else {

@@ -21,7 +21,7 @@ fn count_branching(n: usize, h: usize, count: usize, table: &[i32], firsts: &[us
 }
 
 // The terminal, and a record for each branching class of each cut.
-pub fn count_nodes(n: usize, table: &[i32], firsts: &[usize], counts: &[usize]) -> usize
+pub(crate) fn count_nodes(n: usize, table: &[i32], firsts: &[usize], counts: &[usize]) -> usize
     requires { ⌜ RowsKnown n (now table) (now firsts) (now counts) ⌝ }
     ensures { λ r. ⌜ r ≡ nodeCount n (now (table .entry)) ⌝ }
 {

@@ -10,25 +10,17 @@ use cascade::Outcome;
 use cascade::Verdict;
 
 // The number of a refusal beside cells of 0.
-pub fn not_compiled(number: u8) -> Compiled
+pub(crate) fn not_compiled(number: u8) -> Compiled
     ensures { λ r. ⌜ r ≡ notCompiled number ⌝ }
 {
     Compiled {
         outcome: Outcome::Refused(number),
-        cells: [Cell {
-            group: 0,
-            incoming: 0,
-            outgoing: 0,
-            width: 0,
-            bits: 0,
-            common: 0,
-            uses: 0,
-        }; 12],
+        cells: [cascade::NO_CELL; cascade::MOST_CELLS],
     }
 }
 
 // The number of a verdict: 0 where there is a grouping.
-pub fn refusal(verdict: Verdict) -> u8
+pub(crate) fn refusal(verdict: Verdict) -> u8
     ensures { λ r. ⌜ r ≡ refusalOf verdict ⌝ }
 {
     match verdict {
@@ -40,7 +32,7 @@ pub fn refusal(verdict: Verdict) -> u8
 // The image of the first so many cells, or 10 where the buffer is shorter.
 fn place_image(
     n: usize,
-    cells: [Cell; 12],
+    cells: [Cell; cascade::MOST_CELLS],
     count: usize,
     bits: usize,
     table: &[i32],
@@ -70,9 +62,9 @@ fn place_image(
 }
 
 // The same from rows for the largest table, in whose front the classes of this one stand.
-pub fn place_table(
+pub(crate) fn place_table(
     n: usize,
-    cells: [Cell; 12],
+    cells: [Cell; cascade::MOST_CELLS],
     count: usize,
     bits: usize,
     table: &[i32],

@@ -8,7 +8,7 @@ ghost use Rattle.compiler.specs.Inner.WordWriting.{wordBytes, RowsKnown,
 use cascade::Cell;
 
 // The words of a cell from cut h, behind its command, in the tail that is left of the image.
-pub fn write_words(
+pub(crate) fn write_words(
     n: usize,
     h: usize,
     cell: Cell,

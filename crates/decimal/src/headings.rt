@@ -8,7 +8,7 @@ use crate::Item;
 use crate::Place;
 
 // The next word, where it is a number in this range on the first line.
-pub fn heading(text: &[u8], at: usize, low: i32, high: i32) -> Heading
+pub(crate) fn heading(text: &[u8], at: usize, low: i32, high: i32) -> Heading
     requires { ⌜ PlaceIn (now text) (record { at = at; line = 1 }) ⌝ }
     ensures { λ r. ⌜ r ≡ headingAt (now (text .entry)) at low high ⌝ }
 {
@@ -35,7 +35,7 @@ pub fn heading(text: &[u8], at: usize, low: i32, high: i32) -> Heading
 }
 
 // Whether there are more words on the first line, from a place on.
-pub fn has_more(text: &[u8], at: usize) -> bool
+pub(crate) fn has_more(text: &[u8], at: usize) -> bool
     requires { ⌜ PlaceIn (now text) (record { at = at; line = 1 }) ⌝ }
     ensures { λ r. ⌜ r ≡ hasMore (wordsAt (now (text .entry)) (record { at = at; line = 1 })) ⌝ }
 {

@@ -1,8 +1,8 @@
 // A table as people write it, in decimal text: what a text gives, its words and their numbers.
-pub mod headings;
-pub mod numerals;
+mod headings;
+mod numerals;
 pub mod parser;
-pub mod values;
+mod values;
 pub mod words;
 
 // What was expected where a text goes wrong.

@@ -71,7 +71,7 @@ fn signed(size: usize, negative: bool) -> Number
 }
 
 // The number of a word.
-pub fn word_number(word: &[u8]) -> Number
+pub(crate) fn word_number(word: &[u8]) -> Number
     ensures { λ r. ⌜ r ≡ wordNumber (now (word .entry)) ⌝ }
 {
     if word.len() == 0 {

@@ -30,7 +30,7 @@ fn check_end(text: &[u8], place: Place) -> Checked
 
 // So many values from a place on, into the front of the lent row, and then nothing more. Where the text goes wrong the row has
 // those before.
-pub fn read_values(text: &[u8], start: Place, count: usize, values: &mut [i32]) -> Checked
+pub(crate) fn read_values(text: &[u8], start: Place, count: usize, values: &mut [i32]) -> Checked
     requires { ⌜ PlaceIn (now text) start ⌝ }
     requires { ⌜ count ≤ length (now values) ⌝ }
     ensures { λ r. ⌜ ReadsValues (now (text .entry)) start count (now (values .entry)) r (now (values .exit)) ⌝ }
@@ -74,7 +74,7 @@ fn write_values(input: &mut [u8], values: &[i32])
 }
 
 // The bytes of a table, in front.
-pub fn write_input(input: &mut [u8], n: usize, limit: usize, values: &[i32])
+pub(crate) fn write_input(input: &mut [u8], n: usize, limit: usize, values: &[i32])
     requires { ⌜ InputReady n limit (now values) (now input) ⌝ }
     ensures { λ _. ⌜ now (input .exit) ≡ overwritten (now (input .entry)) 0 (inputOf (record { n = n; limit = limit; values = now (values .entry) })) ⌝ }
 {

@@ -31,7 +31,7 @@ fn is_separator(byte: u8) -> bool
 }
 
 // Past the blanks and newlines from a place on.
-pub fn skip(text: &[u8], place: Place) -> Place
+pub(crate) fn skip(text: &[u8], place: Place) -> Place
     requires { ⌜ PlaceIn (now text) place ⌝ }
     ensures { λ r. ⌜ r ≡ skipped (now (text .entry)) place ⌝ }
 {

@@ -14,7 +14,7 @@ fn value_fits(table: &[i32], x: usize) -> bool
     requires { ⌜ x < length (now table) ⌝ }
     ensures { λ r. ⌜ r ≡ isValue (getD (now (table .entry)) x (pos 0)) ⌝ }
 {
-    numbers::arithmetic::is_within(-8388608, 8388607, table[x])
+    numbers::arithmetic::is_value(table[x])
 }
 
 // Whether every value is; a weight list is judged so too.

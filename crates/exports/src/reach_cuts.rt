@@ -8,7 +8,7 @@ pub extern "C" fn panstrait_reach(
     n: usize,
     table: &[i32],
     limit: usize,
-    cuts: &mut [usize; 13],
+    cuts: &mut [usize; blocks::ALL_CUTS],
     count: &mut usize,
     least: &mut usize,
 ) -> u8

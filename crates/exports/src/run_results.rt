@@ -4,7 +4,7 @@ ghost use Rattle.exports.specs.RanGiven.{RanGiven};
 use image::Ran;
 
 // 0 with value and words behind the references, or the refusal's number.
-pub fn hand_back(answer: Ran, value: &mut i32, words: &mut usize) -> u8
+pub(crate) fn hand_back(answer: Ran, value: &mut i32, words: &mut usize) -> u8
     ensures { λ r. ⌜ RanGiven (ran answer) (now (value .entry)) (now (words .entry)) r (now (value .exit)) (now (words .exit)) ⌝ }
 {
     match answer {

@@ -44,7 +44,7 @@ pub(crate) fn sizes_fit(
 ) -> bool
     ensures { λ r. ⌜ r ≡ sizesFit n values cuts (classes ∷ firsts ∷ tried ∷ uses ∷ «use_counts» ∷ []) ⌝ }
 {
-    if 12 < n {
+    if numbers::MOST_VARIABLES < n {
         return false;
     }
     if values != numbers::arithmetic::power(n) {

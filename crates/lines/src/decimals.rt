@@ -36,7 +36,7 @@ fn write_number(text: &mut [u8], at: usize, number: usize) -> usize
 }
 
 // A signed number at a place. Answers the place behind it.
-pub fn write_signed(text: &mut [u8], at: usize, number: i32) -> usize
+pub(crate) fn write_signed(text: &mut [u8], at: usize, number: i32) -> usize
     requires { ⌜ at + length (decimal number) ≤ length (now text) ⌝ }
     ensures { λ r. ⌜ Writes (now (text .entry)) at (decimal number) r (now (text .exit)) ⌝ }
 {

@@ -1,3 +1,3 @@
 // Lines of text and decimal numbers: what they are, and numbers written in decimal.
-pub mod decimals;
+mod decimals;
 pub mod fields;

@@ -22,7 +22,12 @@ fn write_cell(text: &mut [u8], at: usize, cell: Cell) -> usize
 }
 
 // The lines of the first so many cells at a place, from the top cell down. Answers the place behind them.
-fn write_cells(text: &mut [u8], at: usize, cells: [Cell; 12], count: usize) -> usize
+fn write_cells(
+    text: &mut [u8],
+    at: usize,
+    cells: [Cell; cascade::MOST_CELLS],
+    count: usize,
+) -> usize
     requires { ⌜ CellsSmall cells count ⌝ }
     requires { ⌜ at + length (planLines cells count) ≤ length (now text) ⌝ }
     ensures { λ r. ⌜ Writes (now (text .entry)) at (planLines cells count) r (now (text .exit)) ⌝ }
@@ -38,10 +43,10 @@ fn write_cells(text: &mut [u8], at: usize, cells: [Cell; 12], count: usize) -> u
 }
 
 // The cell lines and the total bits at a place. Answers the place behind them.
-pub fn write_cascade(
+pub(crate) fn write_cascade(
     text: &mut [u8],
     at: usize,
-    cells: [Cell; 12],
+    cells: [Cell; cascade::MOST_CELLS],
     count: usize,
     bits: usize,
 ) -> usize

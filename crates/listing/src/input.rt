@@ -6,7 +6,7 @@ ghost use Rattle.listing.specs.Inner.Values.{valuesOf};
 ghost use Rattle.listing.specs.Listing.{isListed};
 
 // Whether a table of n variables is listed.
-pub fn is_listed(n: usize) -> bool
+pub(crate) fn is_listed(n: usize) -> bool
     ensures { λ r. ⌜ r ≡ isListed n ⌝ }
 {
     if n < 1 {
@@ -16,7 +16,7 @@ pub fn is_listed(n: usize) -> bool
 }
 
 // The values behind the first two bytes, as many as there are places.
-pub fn read_values(input: &[u8], values: &mut [i32])
+pub(crate) fn read_values(input: &[u8], values: &mut [i32])
     requires { ⌜ 2 + 4 * length (now values) ≤ length (now input) ⌝ }
     ensures { λ _. ⌜ now (values .exit) ≡ valuesOf (now (input .entry)) (length (now (values .entry))) ⌝ }
 {

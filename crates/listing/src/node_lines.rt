@@ -35,7 +35,13 @@ fn write_nodes(text: &mut [u8], at: usize, nodes: &[i32], count: usize) -> usize
 }
 
 // The table's line, the node lines and the node count, in front. Answers the place behind them.
-pub fn write_diagram(text: &mut [u8], n: usize, offset: i32, nodes: &[i32], count: usize) -> usize
+pub(crate) fn write_diagram(
+    text: &mut [u8],
+    n: usize,
+    offset: i32,
+    nodes: &[i32],
+    count: usize,
+) -> usize
     requires { ⌜ (n < 2 ^ 31) × RecordsThere (now nodes) count ⌝ }
     requires { ⌜ length (diagramText n offset (now nodes) count) ≤ length (now text) ⌝ }
     ensures { λ r. ⌜ Writes (now (text .entry)) 0 (diagramText n offset (now (nodes .entry)) count) r (now (text .exit)) ⌝ }

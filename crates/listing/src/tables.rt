@@ -14,7 +14,7 @@ use cascade::Verdict;
 fn write_table(
     n: usize,
     table: &[i32],
-    cells: [Cell; 12],
+    cells: [Cell; cascade::MOST_CELLS],
     count: usize,
     bits: usize,
     text: &mut [u8],
@@ -22,7 +22,7 @@ fn write_table(
     requires { ⌜ TextReady n (now table) cells count bits (now text) ⌝ }
     ensures { λ r. ⌜ Writes (now (text .entry)) 0 (tableText n (now (table .entry)) (groups cells count)) r (now (text .exit)) ⌝ }
 {
-    let mut nodes = [0i32; 12282];
+    let mut nodes = [0i32; NODE_ROOM];
     match builder::build(n, table, &mut nodes) {
         diagram::Built::Refused(number) => lines::fields::write_refusal(text, number),
         diagram::Built::Diagram { nodes: all, offset } => {

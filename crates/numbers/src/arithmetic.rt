@@ -2,7 +2,7 @@
 ghost use mathlib.Core.Path.{_≡_};
 ghost use Prim.Native.Nat.{_^_, _<_};
 ghost use lib.Signed.{mag};
-ghost use Rattle.numbers.specs.Ranges.{isVariables, isLimit, within, lesser, greater};
+ghost use Rattle.numbers.specs.Ranges.{isVariables, isLimit, within, isValue, isWeight, lesser, greater};
 
 // n both for n and for -(n + 1).
 pub fn magnitude(weight: i32) -> u32
@@ -30,7 +30,7 @@ pub fn is_variables(n: usize) -> bool
     if n < 1 {
         return false;
     }
-    n <= 12
+    n <= crate::MOST_VARIABLES
 }
 
 // Whether a number is an address limit.
@@ -40,17 +40,31 @@ pub fn is_limit(limit: usize) -> bool
     if limit < 1 {
         return false;
     }
-    limit <= 12
+    limit <= crate::WIDEST_ADDRESS
 }
 
 // Whether a number lies within a range.
-pub fn is_within(low: i32, high: i32, number: i32) -> bool
+fn is_within(low: i32, high: i32, number: i32) -> bool
     ensures { λ r. ⌜ r ≡ within low high number ⌝ }
 {
     if low <= number {
         return number <= high;
     }
     false
+}
+
+// Whether a number is a value of a table.
+pub fn is_value(number: i32) -> bool
+    ensures { λ r. ⌜ r ≡ isValue number ⌝ }
+{
+    is_within(-8388608, 8388607, number)
+}
+
+// Whether a number is a weight of a record list or an image.
+pub fn is_weight(number: i32) -> bool
+    ensures { λ r. ⌜ r ≡ isWeight number ⌝ }
+{
+    is_within(-16777215, 16777215, number)
 }
 
 // The lesser of two numbers.

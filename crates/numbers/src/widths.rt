@@ -5,7 +5,7 @@ ghost use Rattle.numbers.specs.Inner.Bits.{bitLength};
 ghost use Rattle.numbers.specs.Widths.{railWidth, weightWidth};
 
 // The number of bits of a number.
-pub fn bit_length(number: u32) -> usize
+fn bit_length(number: u32) -> usize
     ensures { λ r. ⌜ r ≡ bitLength number ⌝ }
 {
     (32 - u32::leading_zeros(number)) as usize

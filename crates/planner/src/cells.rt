@@ -43,7 +43,7 @@ fn chosen_cell(
     h: usize,
     counts: &[usize],
     use_counts: &[usize],
-    choices: [Choice; 13],
+    choices: [Choice; blocks::ALL_CUTS],
 ) -> Cell
     requires { ⌜ CellChosen n h (now counts) (now «use_counts») choices ⌝ }
     ensures { λ r. ⌜ r ≡ chosenCell (now (counts .entry)) (now («use_counts» .entry)) choices h ⌝ }
@@ -68,26 +68,18 @@ fn chosen_cell(
 }
 
 // The sizes and the cells of the chosen grouping, with so many bits in all.
-pub fn list_cells(
+pub(crate) fn list_cells(
     n: usize,
     counts: &[usize],
     use_counts: &[usize],
-    choices: [Choice; 13],
+    choices: [Choice; blocks::ALL_CUTS],
     bits: usize,
 ) -> Planned
     requires { ⌜ ListChosen n (now counts) (now «use_counts») choices ⌝ }
     ensures { λ r. ⌜ r ≡ listedPlan (chosenCells (now (counts .entry)) (now («use_counts» .entry)) choices n n 0) bits ⌝ }
 {
-    let mut sizes = [0usize; 12];
-    let mut cells = [Cell {
-        group: 0,
-        incoming: 0,
-        outgoing: 0,
-        width: 0,
-        bits: 0,
-        common: 0,
-        uses: 0,
-    }; 12];
+    let mut sizes = [0usize; cascade::MOST_CELLS];
+    let mut cells = [cascade::NO_CELL; cascade::MOST_CELLS];
     let mut count = 0;
     let mut h = 0;
     while h < n {

@@ -46,7 +46,7 @@ fn choose(
     table: &[i32],
     firsts: &[usize],
     counts: &[usize],
-    choices: [Choice; 13],
+    choices: [Choice; blocks::ALL_CUTS],
 ) -> Choice
     requires { ⌜ CutReady n h limit (now table) (now firsts) (now counts) choices ⌝ }
     ensures { λ r. ⌜ r ≡ tableChoice n (now (table .entry)) limit h ⌝ }
@@ -65,17 +65,17 @@ fn choose(
 }
 
 // The choices at all cuts, from the bottom cut up.
-pub fn choose_all(
+pub(crate) fn choose_all(
     n: usize,
     limit: usize,
     table: &[i32],
     firsts: &[usize],
     counts: &[usize],
-) -> [Choice; 13]
+) -> [Choice; blocks::ALL_CUTS]
     requires { ⌜ RowsKnown n (now table) (now firsts) (now counts) ⌝ }
     ensures { λ r. ⌜ r ≡ choiceArray n (now (table .entry)) limit ⌝ }
 {
-    let mut choices = [Choice::NoList; 13];
+    let mut choices = [Choice::NoList; blocks::ALL_CUTS];
     choices[n] = Choice::Costing { cost: 0, size: 0 };
     let mut h = n;
     while 0 < h {

@@ -1,8 +1,8 @@
 // Plan: the least-cost grouping of a table's variables within an address limit.
-pub mod cells;
-pub mod choices;
+mod cells;
+mod choices;
 mod planning;
-pub mod prices;
+mod prices;
 
 ghost use Rattle.cascade.specs.Plan.{Plans};
 ghost use Rattle.planner.specs.Inner.Rows.{RowsRoom, RowsLeft};
@@ -36,8 +36,8 @@ pub fn plan_in(
 pub fn plan(n: usize, table: &[i32], limit: usize) -> Planned
     ensures { λ r. ⌜ Plans n (now (table .entry)) limit r ⌝ }
 {
-    let mut classes = [0usize; 8191];
-    let mut firsts = [0usize; 8191];
-    let mut counts = [0usize; 13];
+    let mut classes = [0usize; blocks::ALL_PLACES];
+    let mut firsts = [0usize; blocks::ALL_PLACES];
+    let mut counts = [0usize; blocks::ALL_CUTS];
     plan_in(n, table, limit, &mut classes, &mut firsts, &mut counts)
 }

@@ -19,16 +19,8 @@ pub(crate) fn refused_plan(number: u8) -> Planned
 {
     Planned {
         verdict: Verdict::Refused(number),
-        sizes: [0; 12],
-        cells: [Cell {
-            group: 0,
-            incoming: 0,
-            outgoing: 0,
-            width: 0,
-            bits: 0,
-            common: 0,
-            uses: 0,
-        }; 12],
+        sizes: [0; cascade::MOST_CELLS],
+        cells: [cascade::NO_CELL; cascade::MOST_CELLS],
     }
 }
 
@@ -68,7 +60,7 @@ fn plan_table(
     ensures { λ r. ⌜ Plans n (now (table .entry)) limit r ⌝ }
     ensures { λ r. ⌜ AllClassed n (now (table .entry)) (now (classes .exit)) (now (firsts .exit)) (now (counts .exit)) ⌝ }
 {
-    let mut use_counts = [0usize; 8191];
+    let mut use_counts = [0usize; blocks::ALL_PLACES];
     let places = classes.len();
     classes::class_table(n, table, classes, firsts, counts, &mut use_counts[..places]);
     plan_cuts(n, table, limit, firsts, counts, &use_counts[..places])

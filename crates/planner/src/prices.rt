@@ -66,7 +66,7 @@ fn cell_width(n: usize, h: usize, g: usize, count: usize, table: &[i32], firsts:
 }
 
 // The memory bits of the cell from cut h that takes g variables.
-pub fn cell_price(
+pub(crate) fn cell_price(
     n: usize,
     h: usize,
     g: usize,
@@ -84,7 +84,7 @@ pub fn cell_price(
 }
 
 // Whether the cell from cut h that takes g variables keeps to the address limit.
-pub fn cell_fits(h: usize, g: usize, limit: usize, counts: &[usize]) -> bool
+pub(crate) fn cell_fits(h: usize, g: usize, limit: usize, counts: &[usize]) -> bool
     requires { ⌜ AddressReady (now counts) h g ⌝ }
     ensures { λ r. ⌜ r ≡ leb (railWidth (getD (now (counts .entry)) h 0) + g) limit ⌝ }
 {

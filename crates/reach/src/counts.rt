@@ -8,11 +8,11 @@ use crate::Reached;
 use crate::Verdict;
 
 // The cuts from 0 to the last one, and 0 behind them.
-fn list_cuts(last: usize) -> [usize; 13]
+fn list_cuts(last: usize) -> [usize; blocks::ALL_CUTS]
     requires { ⌜ last ≤ 12 ⌝ }
     ensures { λ r. ⌜ r ≡ padded 13 0 (numbersFrom 0 (suc last)) ⌝ }
 {
-    let mut cuts = [0usize; 13];
+    let mut cuts = [0usize; blocks::ALL_CUTS];
     let mut h = 0;
     while h <= last {
         cuts[h] = h;
@@ -22,7 +22,7 @@ fn list_cuts(last: usize) -> [usize; 13]
 }
 
 // The cuts and the least limit.
-pub fn reach_counts(n: usize, limit: usize, counts: &[usize]) -> Reached
+pub(crate) fn reach_counts(n: usize, limit: usize, counts: &[usize]) -> Reached
     requires { ⌜ CountsReady n (now counts) ⌝ }
     ensures { λ r. ⌜ r ≡ reachedIn n limit (now (counts .entry)) ⌝ }
 {

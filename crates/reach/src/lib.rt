@@ -1,6 +1,6 @@
 // Reach: the cuts that cells within an address limit arrive at, and the least limit that fits; what it is, and what is proved of it.
-pub mod counts;
-pub mod narrow_cells;
+mod counts;
+mod narrow_cells;
 pub mod reaching;
 
 // Reach's verdict: the number of cuts, and the least address limit that fits.
@@ -12,5 +12,5 @@ pub enum Verdict {
 // Reach's answer: the verdict beside the cuts, 0 past the last one and all 0 in a refusal.
 pub struct Reached {
     pub verdict: Verdict,
-    pub cuts: [usize; 13],
+    pub cuts: [usize; blocks::ALL_CUTS],
 }

@@ -16,7 +16,7 @@ fn narrowest(h: usize, counts: &[usize]) -> usize
 }
 
 // The furthest cut that is reached.
-pub fn furthest_cut(n: usize, limit: usize, counts: &[usize]) -> usize
+pub(crate) fn furthest_cut(n: usize, limit: usize, counts: &[usize]) -> usize
     requires { ⌜ CountsReady n (now counts) ⌝ }
     ensures { λ r. ⌜ r ≡ furthest (narrowestIn (now (counts .entry))) limit n ⌝ }
 {
@@ -28,7 +28,7 @@ pub fn furthest_cut(n: usize, limit: usize, counts: &[usize]) -> usize
 }
 
 // The least limit that fits: the widest of those cells from the cuts above the bottom.
-pub fn least_limit(n: usize, counts: &[usize]) -> usize
+pub(crate) fn least_limit(n: usize, counts: &[usize]) -> usize
     requires { ⌜ CountsReady n (now counts) ⌝ }
     ensures { λ r. ⌜ r ≡ widestAbove (narrowestIn (now (counts .entry))) n ⌝ }
 {

@@ -13,7 +13,7 @@ fn refused_reach(number: u8) -> Reached
 {
     Reached {
         verdict: Verdict::Refused(number),
-        cuts: [0; 13],
+        cuts: [0; blocks::ALL_CUTS],
     }
 }
 
@@ -36,10 +36,10 @@ fn check_call(n: usize, table: &[i32], limit: usize) -> Checked
 pub fn reach(n: usize, table: &[i32], limit: usize) -> Reached
     ensures { λ r. ⌜ Reaches n (now (table .entry)) limit r ⌝ }
 {
-    let mut classes = [0usize; 8191];
-    let mut firsts = [0usize; 8191];
-    let mut counts = [0usize; 13];
-    let mut use_counts = [0usize; 8191];
+    let mut classes = [0usize; blocks::ALL_PLACES];
+    let mut firsts = [0usize; blocks::ALL_PLACES];
+    let mut counts = [0usize; blocks::ALL_CUTS];
+    let mut use_counts = [0usize; blocks::ALL_PLACES];
     match check_call(n, table, limit) {
         Checked::Refused(number) => refused_reach(number),
         Checked::Passed => {

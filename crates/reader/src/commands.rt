@@ -8,7 +8,7 @@ use image::Command;
 use image::Kind;
 use image::Place;
 
-pub fn due_kind(place: Place) -> Kind
+pub(crate) fn due_kind(place: Place) -> Kind
     ensures { λ r. ⌜ dueOf r ≡ due place ⌝ }
 {
     if place.n == 0 {
@@ -23,7 +23,7 @@ pub fn due_kind(place: Place) -> Kind
     Kind::End
 }
 
-pub fn command_byte(kind: Kind) -> usize
+pub(crate) fn command_byte(kind: Kind) -> usize
     ensures { λ r. ⌜ r ≡ dueByte (dueOf kind) ⌝ }
 {
     match kind {
@@ -34,7 +34,7 @@ pub fn command_byte(kind: Kind) -> usize
     }
 }
 
-pub fn command_size(kind: Kind) -> usize
+pub(crate) fn command_size(kind: Kind) -> usize
     ensures { λ r. ⌜ r ≡ dueSize (dueOf kind) ⌝ }
 {
     match kind {
@@ -61,7 +61,7 @@ fn cell_at(image: &[u8], at: usize) -> Command
     }
 }
 
-pub fn command_at(image: &[u8], at: usize, kind: Kind) -> Command
+pub(crate) fn command_at(image: &[u8], at: usize, kind: Kind) -> Command
     requires { ⌜ at + dueSize (dueOf kind) ≤ length (now image) ⌝ }
     ensures { λ r. ⌜ (r ≡ commandAt (dueOf kind) (now (image .entry)) at) × (widthOf r < 256) ⌝ }
 {

@@ -1,6 +1,6 @@
 // The image reader: a step from a place to a command and the next place, and the check of a whole image.
-pub mod commands;
-pub mod operand_rules;
-pub mod places;
+mod commands;
+mod operand_rules;
+mod places;
 pub mod reading;
-pub mod rules;
+mod rules;

@@ -8,17 +8,17 @@ ghost use Rattle.image.specs.Reader.{keepsRules};
 use image::Command;
 use image::Place;
 
-pub fn table_keeps(n: usize, offset: i32) -> bool
+pub(crate) fn table_keeps(n: usize, offset: i32) -> bool
     ensures { λ r. ⌜ r ≡ (isVariables n && isValue offset) ⌝ }
 {
     if !numbers::arithmetic::is_variables(n) {
         return false;
     }
-    numbers::arithmetic::is_within(-8388608, 8388607, offset)
+    numbers::arithmetic::is_value(offset)
 }
 
 // The rules of a cell but that of its width, which is judged after its last word.
-pub fn cell_keeps(place: Place, group: usize, incoming: usize, outgoing: usize) -> bool
+pub(crate) fn cell_keeps(place: Place, group: usize, incoming: usize, outgoing: usize) -> bool
     requires { ⌜ WithinBounds place ⌝ }
     ensures { λ r. ⌜ r ≡ keepsRules place (Command.Cell group incoming outgoing 0) ⌝ }
 {
@@ -34,7 +34,7 @@ pub fn cell_keeps(place: Place, group: usize, incoming: usize, outgoing: usize) 
     if outgoing < 1 {
         return false;
     }
-    if 4096 < outgoing {
+    if image::MOST_CLASSES < outgoing {
         return false;
     }
     if group == place.left {
@@ -42,10 +42,10 @@ pub fn cell_keeps(place: Place, group: usize, incoming: usize, outgoing: usize) 
             return false;
         }
     }
-    numbers::widths::rail_width(incoming as u32) + group <= 12
+    numbers::widths::rail_width(incoming as u32) + group <= numbers::WIDEST_ADDRESS
 }
 
-pub fn word_keeps(place: Place, class: usize, weight: i32) -> bool
+pub(crate) fn word_keeps(place: Place, class: usize, weight: i32) -> bool
     requires { ⌜ WithinBounds place ⌝ }
     ensures { λ r. ⌜ r ≡ keepsRules place (Command.Word class weight) ⌝ }
 {
@@ -57,5 +57,5 @@ pub fn word_keeps(place: Place, class: usize, weight: i32) -> bool
             return false;
         }
     }
-    numbers::arithmetic::is_within(-16777215, 16777215, weight)
+    numbers::arithmetic::is_weight(weight)
 }

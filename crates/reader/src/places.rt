@@ -7,7 +7,7 @@ use image::Command;
 use image::Place;
 
 // Where reading starts.
-pub fn start_place() -> Place
+pub(crate) fn start_place() -> Place
     ensures { λ r. ⌜ r ≡ start ⌝ }
 {
     Place {
@@ -96,7 +96,7 @@ fn after_end(place: Place, bits: usize) -> Place
     }
 }
 
-pub fn place_after(place: Place, command: Command) -> Place
+pub(crate) fn place_after(place: Place, command: Command) -> Place
     requires { ⌜ Follows place command ⌝ }
     ensures { λ r. ⌜ r ≡ placeAfter place command ⌝ }
 {

@@ -26,7 +26,7 @@ fn judge(image: &[u8], place: Place, command: Command) -> Step
 }
 
 // One step of the reader, in the paper's order of checks.
-pub fn read_step(image: &[u8], place: Place) -> Step
+fn read_step(image: &[u8], place: Place) -> Step
     requires { ⌜ WithinBounds place ⌝ }
     ensures { λ r. ⌜ stepped r ≡ step (now (image .entry)) place ⌝ }
 {

@@ -8,7 +8,7 @@ ghost use Rattle.image.specs.Reader.{keepsRules, widthIsLeast, endsWell};
 use image::Command;
 use image::Place;
 
-pub fn keeps_rules(place: Place, command: Command) -> bool
+pub(crate) fn keeps_rules(place: Place, command: Command) -> bool
     requires { ⌜ WithinBounds place ⌝ }
     ensures { λ r. ⌜ r ≡ keepsRules place command ⌝ }
 {
@@ -25,7 +25,7 @@ pub fn keeps_rules(place: Place, command: Command) -> bool
     }
 }
 
-pub fn width_is_least(place: Place) -> bool
+pub(crate) fn width_is_least(place: Place) -> bool
     ensures { λ r. ⌜ r ≡ widthIsLeast place ⌝ }
 {
     if 0 < place.words {
@@ -34,7 +34,7 @@ pub fn width_is_least(place: Place) -> bool
     place.width == numbers::widths::weight_width(place.least, place.greatest)
 }
 
-pub fn is_end(command: Command) -> bool
+pub(crate) fn is_end(command: Command) -> bool
     ensures { λ r. ⌜ r ≡ isEnd command ⌝ }
 {
     match command {
@@ -53,7 +53,7 @@ pub fn is_end(command: Command) -> bool
     }
 }
 
-pub fn ends_well(image: &[u8], place: Place, command: Command) -> bool
+pub(crate) fn ends_well(image: &[u8], place: Place, command: Command) -> bool
     requires { ⌜ place .at < 2 ^ 63 ⌝ }
     ensures { λ r. ⌜ r ≡ endsWell (now (image .entry)) place command ⌝ }
 {

@@ -1,6 +1,6 @@
 // The report on the values of a record list over a part of its domain: what it is, and what is proved of it.
 pub mod reporting;
-pub mod tops;
+mod tops;
 
 // The report's answer.
 pub enum Reported {

@@ -59,7 +59,7 @@ fn read_cell(image: &[u8], x: usize, progress: Progress) -> Progress
 }
 
 // The card's answer at X, from the words in place.
-pub fn evaluate(image: &[u8], x: usize) -> Evaluated
+pub(crate) fn evaluate(image: &[u8], x: usize) -> Evaluated
     requires { ⌜ Accepted (now image) ⌝ }
     ensures { λ r. ⌜ resultOf r ≡ runCard (cardRead (now (image .entry))) x ⌝ }
 {
@@ -74,7 +74,7 @@ pub fn evaluate(image: &[u8], x: usize) -> Evaluated
 }
 
 // The number of variables of an accepted image.
-pub fn variables(image: &[u8]) -> usize
+pub(crate) fn variables(image: &[u8]) -> usize
     requires { ⌜ Accepted (now image) ⌝ }
     ensures { λ r. ⌜ r ≡ cardRead (now (image .entry)) .n ⌝ }
 {

@@ -1,5 +1,5 @@
 // Run and Expand: an image is read whole, then evaluated by its words in place.
-pub mod evaluation;
+mod evaluation;
 
 ghost use mathlib.Core.Path.{_≡_};
 ghost use Prim.Native.Nat.{_<_};

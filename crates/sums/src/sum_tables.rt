@@ -23,7 +23,7 @@ fn add_weight(table: &mut [i32], half: usize, weight: i32)
 }
 
 // The sums, weight by weight: with each the table is twice as long.
-pub fn write_sums(weights: &[i32], table: &mut [i32])
+pub(crate) fn write_sums(weights: &[i32], table: &mut [i32])
     requires { ⌜ Summable (now weights) × (length (now table) ≡ 2 ^ length (now weights)) ⌝ }
     ensures { λ r. ⌜ now (table .exit) ≡ sumTable (now (weights .entry)) ⌝ }
 {
@@ -46,7 +46,7 @@ fn remainder_of(value: i32, modulus: u32) -> i32
 }
 
 // Every value's remainder by 2^q in its place.
-pub fn reduce(q: usize, table: &mut [i32])
+pub(crate) fn reduce(q: usize, table: &mut [i32])
     requires { ⌜ q ≤ 11 ⌝ }
     ensures { λ r. ⌜ now (table .exit) ≡ map (λ z. pos (remainderBy (2 ^ q) z)) (now (table .entry)) ⌝ }
 {

@@ -9,7 +9,7 @@ ghost use Rattle.sums.specs.Inner.Checks.{weightChecks};
 use diagram::Checked;
 
 // The checks on a weight list that both operations share, in their order.
-pub fn check_weights(n: usize, weights: &[i32]) -> Checked
+pub(crate) fn check_weights(n: usize, weights: &[i32]) -> Checked
     ensures { λ r. ⌜ checked r ≡ weightChecks n (now (weights .entry)) ⌝ }
 {
     if !numbers::arithmetic::is_variables(n) {
@@ -25,7 +25,7 @@ pub fn check_weights(n: usize, weights: &[i32]) -> Checked
 }
 
 // Whether every sum is a value. The least one is that of the negative weights, the greatest that of the others.
-pub fn sums_fit(weights: &[i32]) -> bool
+pub(crate) fn sums_fit(weights: &[i32]) -> bool
     requires { ⌜ Summable (now weights) ⌝ }
     ensures { λ r. ⌜ r ≡ every isValue (sumTable (now (weights .entry))) ⌝ }
 {
@@ -41,12 +41,11 @@ pub fn sums_fit(weights: &[i32]) -> bool
         }
         j += 1;
     }
-    numbers::arithmetic::is_within(-8388608, 8388607, least)
-        && numbers::arithmetic::is_within(-8388608, 8388607, greatest)
+    numbers::arithmetic::is_value(least) && numbers::arithmetic::is_value(greatest)
 }
 
 // Whether q is a number of bits that a remainder may have.
-pub fn is_remainder_bits(q: usize) -> bool
+pub(crate) fn is_remainder_bits(q: usize) -> bool
     ensures { λ r. ⌜ r ≡ isRemainderBits q ⌝ }
 {
     if q < 1 {

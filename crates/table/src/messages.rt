@@ -18,7 +18,7 @@ fn number_of(expected: Expected) -> u64
     }
 }
 
-pub fn print_refusal(number: u64) {
+pub(crate) fn print_refusal(number: u64) {
     io::write_all(STDOUT_FILENO, b"refused ");
     io::print_decimal(STDOUT_FILENO, number);
     io::write_all(STDOUT_FILENO, b"\n");
@@ -47,7 +47,7 @@ fn print_expected(expected: Expected) {
     }
 }
 
-pub fn print_wrong(line: usize, expected: Expected) {
+pub(crate) fn print_wrong(line: usize, expected: Expected) {
     io::write_all(STDERR_FILENO, b"line ");
     io::print_decimal(STDERR_FILENO, line as u64);
     io::write_all(STDERR_FILENO, b": expected ");

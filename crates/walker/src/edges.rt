@@ -33,7 +33,7 @@ fn child_fits(records: &[i32], k: usize, child: i32) -> bool
 }
 
 // Whether the variable, the children and the weight of record k fit.
-pub fn edges_fit(n: usize, records: &[i32], k: usize) -> bool
+pub(crate) fn edges_fit(n: usize, records: &[i32], k: usize) -> bool
     requires { ⌜ (1 ≤ n) × Recorded (now records) k ⌝ }
     ensures { λ r. ⌜ r ≡ edgesFit n (now (records .entry)) k ⌝ }
 {
@@ -46,9 +46,5 @@ pub fn edges_fit(n: usize, records: &[i32], k: usize) -> bool
     if !child_fits(records, k, diagram::records::number_at(records, k, 2)) {
         return false;
     }
-    numbers::arithmetic::is_within(
-        -16777215,
-        16777215,
-        diagram::records::number_at(records, k, 3),
-    )
+    numbers::arithmetic::is_weight(diagram::records::number_at(records, k, 3))
 }

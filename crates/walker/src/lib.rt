@@ -1,7 +1,7 @@
 // Walk: the check of a record list, and its value at X.
-pub mod edges;
+mod edges;
 pub mod lists;
-pub mod node_ranges;
+mod node_ranges;
 pub mod paths;
 
 ghost use mathlib.Core.Path.{_≡_};

@@ -56,7 +56,7 @@ pub fn check_list(n: usize, offset: i32, records: &[i32]) -> Checked
     if !numbers::arithmetic::is_variables(n) {
         return Checked::Refused(1);
     }
-    if !numbers::arithmetic::is_within(-8388608, 8388607, offset) {
+    if !numbers::arithmetic::is_value(offset) {
         return Checked::Refused(5);
     }
     if !list_fits(n, records) {

@@ -37,7 +37,7 @@ fn range_from(records: &[i32], k: usize) -> Range
 }
 
 // Whether record k has that range.
-pub fn range_follows(records: &[i32], k: usize) -> bool
+pub(crate) fn range_follows(records: &[i32], k: usize) -> bool
     requires { ⌜ RangeReady (now records) k ⌝ }
     ensures { λ r. ⌜ r ≡ rangeFollows (now (records .entry)) k ⌝ }
 {

@@ -14,7 +14,7 @@ pub fn pair_run(numbers: &[i32], image: &[i32]) -> bool
     let m = crate::rows::size_at(numbers, 1);
     let x = crate::rows::size_at(numbers, 2);
     let y = crate::rows::size_at(numbers, 3);
-    let answer = pairs::pair_run::pair_run(m, &bytes[..image.len()], x, y);
+    let answer = pairs::pair_run(m, &bytes[..image.len()], x, y);
     let refusal = crate::rows::size_at(numbers, 4);
     let value = crate::rows::number_at(numbers, 5, 0);
     let words = crate::rows::size_at(numbers, 6);

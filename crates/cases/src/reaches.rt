@@ -20,7 +20,7 @@ pub fn reach(numbers: &[i32], table: &[i32], cuts: &[i32]) -> bool
 {
     let n = crate::rows::size_at(numbers, 1);
     let limit = crate::rows::size_at(numbers, 2);
-    let reached = reach::reaching::reach(n, table, limit);
+    let reached = reach::reach(n, table, limit);
     let verdict = reached.verdict;
     if !verdict_is(numbers, verdict) {
         return false;

@@ -51,6 +51,6 @@ pub fn report(numbers: &[i32], records: &[i32], sum: &[i32]) -> bool
     let offset = crate::rows::number_at(numbers, 2, 0);
     let a = crate::rows::size_at(numbers, 3);
     let b = crate::rows::size_at(numbers, 4);
-    let answer = report::reporting::report(n, offset, records, a, b);
+    let answer = report::report(n, offset, records, a, b);
     reported_is(numbers, sum, answer)
 }

@@ -29,7 +29,7 @@ pub fn sum(numbers: &[i32], weights: &[i32], front: &[i32]) -> bool
     if lent.len() < places {
         return false;
     }
-    let answer = sums::summing::sum(n, weights, &mut lent[..places]);
+    let answer = sums::sum(n, weights, &mut lent[..places]);
     filled_is(numbers, answer, &lent[..places], front)
 }
 
@@ -44,6 +44,6 @@ pub fn remainder(numbers: &[i32], weights: &[i32], front: &[i32]) -> bool
         return false;
     }
     let q = crate::rows::size_at(numbers, 4);
-    let answer = sums::summing::remainder(n, weights, q, &mut lent[..places]);
+    let answer = sums::remainder(n, weights, q, &mut lent[..places]);
     filled_is(numbers, answer, &lent[..places], front)
 }

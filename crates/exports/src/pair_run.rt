@@ -14,5 +14,5 @@ pub extern "C" fn panstrait_pair_run(
 ) -> u8
     ensures { λ r. ⌜ RanGiven (pairRun m (now (image .entry)) x y) (now (value .entry)) (now (words .entry)) r (now (value .exit)) (now (words .exit)) ⌝ }
 {
-    crate::run_results::hand_back(pairs::pair_run::pair_run(m, image, x, y), value, words)
+    crate::run_results::hand_back(pairs::pair_run(m, image, x, y), value, words)
 }

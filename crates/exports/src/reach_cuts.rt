@@ -14,7 +14,7 @@ pub extern "C" fn panstrait_reach(
 ) -> u8
     ensures { λ r. ⌜ ReachGiven n (now (table .entry)) limit (now (cuts .entry)) (now (count .entry)) (now (least .entry)) r (now (cuts .exit)) (now (count .exit)) (now (least .exit)) ⌝ }
 {
-    let reached = reach::reaching::reach(n, table, limit);
+    let reached = reach::reach(n, table, limit);
     let verdict = reached.verdict;
     match verdict {
         Verdict::Cuts {

@@ -16,7 +16,7 @@ pub extern "C" fn panstrait_report(
 ) -> u8
     ensures { λ r. ⌜ ReportGiven n offset (now (records .entry)) a b (now (count .entry)) (now (least .entry)) (now (greatest .entry)) (now (sum .entry)) r (now (count .exit)) (now (least .exit)) (now (greatest .exit)) (now (sum .exit)) ⌝ }
 {
-    let answer = report::reporting::report(n, offset, records, a, b);
+    let answer = report::report(n, offset, records, a, b);
     match answer {
         report::Reported::Report {
             count: total,

@@ -21,7 +21,7 @@ fn number_of(answer: Summed) -> u8
 pub extern "C" fn panstrait_sum(n: usize, weights: &[i32], table: &mut [i32]) -> u8
     ensures { λ r. ⌜ TableGiven (plainSum n (now (weights .entry)) (length (now (table .entry)))) (now (table .entry)) r (now (table .exit)) ⌝ }
 {
-    let answer = sums::summing::sum(n, weights, table);
+    let answer = sums::sum(n, weights, table);
     number_of(answer)
 }
 
@@ -30,6 +30,6 @@ pub extern "C" fn panstrait_sum(n: usize, weights: &[i32], table: &mut [i32]) ->
 pub extern "C" fn panstrait_remainder(n: usize, weights: &[i32], q: usize, table: &mut [i32]) -> u8
     ensures { λ r. ⌜ TableGiven (reducedSum n (now (weights .entry)) q (length (now (table .entry)))) (now (table .entry)) r (now (table .exit)) ⌝ }
 {
-    let answer = sums::summing::remainder(n, weights, q, table);
+    let answer = sums::remainder(n, weights, q, table);
     number_of(answer)
 }

@@ -3,7 +3,7 @@ ghost use Rattle.stdin.specs.Input.{Keeps};
 ghost use Rattle.listing.specs.Input.{keptBytes};
 use libc::STDERR_FILENO;
 use libc::STDOUT_FILENO;
-use listing::listings::TEXT_ROOM;
+use listing::TEXT_ROOM;
 use stdin::Input;
 
 // One byte more than the longest admitted input: the bytes behind these do not change the text.
@@ -19,7 +19,7 @@ fn read_input(buffer: &mut [u8; KEPT]) -> Input
 // Writes the listing of the kept bytes. Answers whether all of it was written.
 fn print_listing(kept: &[u8]) -> bool {
     let mut text = [0u8; TEXT_ROOM];
-    let length = listing::listings::list_kept(kept, &mut text);
+    let length = listing::list_kept(kept, &mut text);
     io::write_all(STDOUT_FILENO, &text[..length])
 }
 

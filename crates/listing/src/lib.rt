@@ -1,13 +1,79 @@
-// The listing: what it is and what is proved of it, its answer, and what an input gives.
+// The listing of a table: what it is, what is proved of it, and the operation, from the bytes of the input to the bytes of the text.
 mod cell_lines;
 mod input;
-pub mod lister;
-pub mod listings;
 mod node_lines;
 mod tables;
+
+ghost use mathlib.Core.Path.{_≡_};
+ghost use Prim.Native.Nat.{_≤_};
+ghost use lib.ListN.{length};
+ghost use Rattle.numbers.specs.Inner.Rows.{overwritten};
+ghost use Rattle.cascade.specs.Plan.{plan};
+ghost use Rattle.listing.specs.Listing.{tableOf, answerText, listing};
+ghost use Rattle.listing.specs.Program.{textRoom, Lists};
+ghost use Rattle.listing.specs.Inner.Listed.{InputCounted};
+ghost use Rattle.lines.specs.Inner.Writing.{Writes};
+ghost use Rattle.listing.specs.Text.{ListsKept};
 
 // What listing answers: the text's length, or that the buffer is too short for the text of some input.
 pub enum Listed {
     Text { length: usize },
     TooShort,
+}
+
+// The text of an input with as many values as n asks for, which are read into the lent row. Answers its length.
+fn list_values(input: &[u8], n: usize, limit: usize, values: &mut [i32], text: &mut [u8]) -> usize
+    requires { ⌜ InputCounted (now input) n (now values) (now text) ⌝ }
+    ensures { λ r. ⌜ Writes (now (text .entry)) 0 (answerText n (tableOf (now (input .entry))) (plan n (tableOf (now (input .entry))) limit)) r (now (text .exit)) ⌝ }
+    ensures { λ _. ⌜ now (values .exit) ≡ overwritten (now (values .entry)) 0 (tableOf (now (input .entry))) ⌝ }
+{
+    let count = numbers::arithmetic::power(n);
+    crate::input::read_values(input, &mut values[..count]);
+    crate::tables::list_table(n, &values[..count], limit, text)
+}
+
+// The text of an input, in front. Answers its length.
+pub fn list_input(input: &[u8], text: &mut [u8]) -> usize
+    requires { ⌜ textRoom ≤ length (now text) ⌝ }
+    ensures { λ r. ⌜ Writes (now (text .entry)) 0 (listing (now (input .entry))) r (now (text .exit)) ⌝ }
+{
+    if input.len() < 2 {
+        return lines::fields::write_refusal(text, 2);
+    }
+    let n = input[0] as usize;
+    let limit = input[1] as usize;
+    if !crate::input::is_listed(n) {
+        return lines::fields::write_refusal(text, 1);
+    }
+    let count = numbers::arithmetic::power(n);
+    if input.len() != 2 + 4 * count {
+        return lines::fields::write_refusal(text, 2);
+    }
+    let mut values = [0i32; 2048];
+    list_values(input, n, limit, &mut values, text)
+}
+
+// The bytes of a buffer that holds the text of every input.
+pub const TEXT_ROOM: usize = 113248;
+
+// The listing program's text for an input, written into the lent buffer where that holds the text of every input.
+pub fn list(input: &[u8], text: &mut [u8]) -> Listed
+    ensures { λ r. ⌜ Lists (now (input .entry)) (now (text .entry)) r (now (text .exit)) ⌝ }
+{
+    if text.len() < TEXT_ROOM {
+        return Listed::TooShort;
+    }
+    Listed::Text {
+        length: list_input(input, text),
+    }
+}
+
+// The listing of an input, of which the first bytes were kept, in front of the text. Answers its length.
+pub fn list_kept(kept: &[u8], text: &mut [u8; TEXT_ROOM]) -> usize
+    ensures { λ r. ⌜ ListsKept (now (kept .entry)) (now (text .entry)) r (now (text .exit)) ⌝ }
+{
+    match list(kept, text) {
+        Listed::Text { length } => length,
+        Listed::TooShort => 0,
+    }
 }

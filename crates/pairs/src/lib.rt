@@ -1,3 +1,56 @@
-// The pair run, definitions alone: an image as a function of X and Y, m bits each, and what is proved of it. It knows nothing of
-// tables.
-pub mod pair_run;
+// The pair run: an image as a function of X and Y, m bits each. It is read whole, for n = 2m, then evaluated at the index of X and Y.
+// What the compiled images of tables of two variables give is proved of it in specs/ (PairTables); the code knows nothing of tables.
+
+ghost use mathlib.Core.Path.{_≡_};
+ghost use mathlib.Core.Bool.{true};
+ghost use Rattle.image.specs.Run.{ran};
+ghost use Rattle.pairs.specs.Pairs.{isPairBits, isPair, pairIndex, pairRun};
+use image::Checked;
+use image::Ran;
+
+// Whether m is a number of bits that X and Y may have.
+fn is_pair_bits(m: usize) -> bool
+    ensures { λ r. ⌜ r ≡ isPairBits m ⌝ }
+{
+    if m < 1 {
+        return false;
+    }
+    m <= 6
+}
+
+// Whether X and Y have m bits each.
+fn is_pair(m: usize, x: usize, y: usize) -> bool
+    requires { ⌜ isPairBits m ≡ true ⌝ }
+    ensures { λ r. ⌜ r ≡ isPair m x y ⌝ }
+{
+    let side = numbers::arithmetic::power(m);
+    if side <= x {
+        return false;
+    }
+    y < side
+}
+
+fn pair_index(m: usize, x: usize, y: usize) -> usize
+    requires { ⌜ (isPairBits m ≡ true) × (isPair m x y ≡ true) ⌝ }
+    ensures { λ r. ⌜ r ≡ pairIndex m x y ⌝ }
+{
+    numbers::arithmetic::power(m) * x + y
+}
+
+// The pair run: m, then the image, then X and Y; else Run's answer at the pair's index.
+pub fn pair_run(m: usize, image: &[u8], x: usize, y: usize) -> Ran
+    ensures { λ r. ⌜ ran r ≡ pairRun m (now (image .entry)) x y ⌝ }
+{
+    if !is_pair_bits(m) {
+        return Ran::Refused(16);
+    }
+    match reader::check_for(image, 2 * m) {
+        Checked::Refused(number) => Ran::Refused(number),
+        Checked::Whole => {
+            if !is_pair(m, x, y) {
+                return Ran::Refused(17);
+            }
+            runner::run_accepted(image, pair_index(m, x, y))
+        }
+    }
+}

@@ -9,7 +9,6 @@ ghost use Rattle.image.specs.Run.{Expands, run, ran};
 use image::Checked;
 use image::Expanded;
 use image::Ran;
-use reader::reading;
 
 // Run of an image that is known to be accepted: it is not checked again.
 pub fn run_accepted(image: &[u8], x: usize) -> Ran
@@ -30,7 +29,7 @@ pub fn run_accepted(image: &[u8], x: usize) -> Ran
 pub fn run(image: &[u8], x: usize) -> Ran
     ensures { λ r. ⌜ ran r ≡ run (now (image .entry)) x ⌝ }
 {
-    match reading::check(image) {
+    match reader::check(image) {
         Checked::Refused(number) => Ran::Refused(number),
         Checked::Whole => run_accepted(image, x),
     }
@@ -64,7 +63,7 @@ fn expand_accepted(image: &[u8], table: &mut [i32]) -> Expanded
 pub fn expand(image: &[u8], table: &mut [i32]) -> Expanded
     ensures { λ r. ⌜ Expands (now (image .entry)) (now (table .entry)) r (now (table .exit)) ⌝ }
 {
-    match reading::check(image) {
+    match reader::check(image) {
         Checked::Refused(number) => Expanded::Refused(number),
         Checked::Whole => expand_accepted(image, table),
     }

@@ -36,11 +36,8 @@ fn list_text(text: &[u8], out: &mut [u8; TEXT_ROOM]) -> Answer
     ensures { λ r. ⌜ ListsText (now (text .entry)) (now (out .entry)) r (now (out .exit)) ⌝ }
 {
     let mut input = [0u8; INPUT_ROOM];
-    match decimal::parser::parse(text, &mut input) {
-        Parsed::Input { length } => Answer::Listing(listing::lister::list_input(
-            &input[..length],
-            out,
-        )),
+    match decimal::parse(text, &mut input) {
+        Parsed::Input { length } => Answer::Listing(listing::list_input(&input[..length], out)),
         Parsed::Wrong { line, expected } => Answer::Wrong { line, expected },
         Parsed::TooShort => Answer::Listing(0),
     }

@@ -6,7 +6,7 @@ mod recorder;
 
 ghost use Rattle.diagram.specs.Build.{Builds};
 use diagram::Built;
-use diagram::Checked;
+use numbers::Checked;
 
 // The reduced diagram of a table: its records in the lent buffer, its node count and its offset.
 pub fn build(n: usize, table: &[i32], nodes: &mut [i32]) -> Built

@@ -25,16 +25,16 @@ compile n table limit room =
     andThen (plan n table limit) (λ sizes. unless (leb (length (imageFor n table sizes)) room) 10 (accepted sizes))
 
 -- The image's length, the node count, and Plan's totals.
-pub record Report : Type 0 where
+pub record ImageSummary : Type 0 where
   pub imageLength : ℕ
   pub nodes : ℕ
   pub planned : Totals
 
-unfoldable pub report : ℕ → List ℤ → List ℕ → Report
-report n table sizes = record { imageLength = length (imageFor n table sizes); nodes = nodeCount n table; planned = totals n table sizes }
+unfoldable pub imageSummary : ℕ → List ℤ → List ℕ → ImageSummary
+imageSummary n table sizes = record { imageLength = length (imageFor n table sizes); nodes = nodeCount n table; planned = totals n table sizes }
 
-unfoldable pub compileAnswer : ℕ → List ℤ → ℕ → ℕ → Answer Report
-compileAnswer n table limit room = mapAnswer (report n table) (compile n table limit room)
+unfoldable pub compileAnswer : ℕ → List ℤ → ℕ → ℕ → Answer ImageSummary
+compileAnswer n table limit room = mapAnswer (imageSummary n table) (compile n table limit room)
 
 -- The cells beside the outcome: Plan's, and all 0 in every refusal.
 unfoldable pub compileCells : ℕ → List ℤ → ℕ → ℕ → List PlanCell
@@ -45,11 +45,11 @@ unfoldable pub compileBuffer : ℕ → List ℤ → ℕ → List ℕ → List �
 compileBuffer n table limit buffer = bufferAfter (compile n table limit (length buffer)) (imageFor n table) buffer
 
 -- Compiled image (the paper's term): the first bytes of the buffer, as many as Compile's length.
-unfoldable pub compiledImage : Report → List ℕ → List ℕ
+unfoldable pub compiledImage : ImageSummary → List ℕ → List ℕ
 compiledImage r buffer = take (r .imageLength) buffer
 
 -- The paper's answer that a value of the enum stands for.
-unfoldable pub outcome : Outcome → Answer Report
+unfoldable pub outcome : Outcome → Answer ImageSummary
 outcome (Image bytes nodes cells bits) = accepted (record { imageLength = bytes; nodes = nodes; planned = record { cells = cells; bits = bits } })
 outcome (Refused number) = refused number
 

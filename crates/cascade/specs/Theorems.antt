@@ -29,7 +29,7 @@ use Rattle.image.specs.Run.{run, expand}
 use Rattle.image.specs.Theorems.{card-image, card-run, card-expand}
 use Rattle.image.specs.declared.Command.the-variants as commands
 use Rattle.cascade.specs.Cascade.{cellOf, cellsFrom, cardFor}
-use Rattle.cascade.specs.Compile.{imageFor, compile, Report, report, compileAnswer, compileBuffer, compiledImage}
+use Rattle.cascade.specs.Compile.{imageFor, compile, ImageSummary, imageSummary, compileAnswer, compileBuffer, compiledImage}
 use Rattle.cascade.specs.Groupings.{cost, fits, chosen, isGrouping, BestGrouping}
 use Rattle.cascade.specs.Plan.{plan, planCell, planCells, noCell, entries, sizeArray, cellArray, totals}
 use Rattle.cascade.specs.declared.Cell.{Cell as PlanCell}
@@ -143,14 +143,14 @@ module _ (n : ℕ) (table : List ℤ) (sizes : List ℕ) (grouping : isGrouping 
 
 -- ---- what Compile left
 
-module _ (n : ℕ) (table : List ℤ) (limit : ℕ) (buffer : List ℕ) (r : Report) (compiled : compileAnswer n table limit (length buffer) ≡ accepted r) where
+module _ (n : ℕ) (table : List ℤ) (limit : ℕ) (buffer : List ℕ) (r : ImageSummary) (compiled : compileAnswer n table limit (length buffer) ≡ accepted r) where
   -- The compiled image.
   abbrev image : List ℕ
   image = compiledImage r (compileBuffer n table limit buffer)
 
   -- The table and the limit were admitted, and the image is that of the chosen grouping, with its length, its cells and its cost.
   pub compiled-chosen : Accepted n table × ((isLimit limit ≡ true) × ((best : List ℕ) × ((chosen n table limit ≡ accepted best) × ((image ≡ imageFor n table best) × (r ≡ record { imageLength = length (imageFor n table best); nodes = nodeCount n table; planned = record { cells = length best; bits = cost n table best } })))))
-  unfolding compiledImage compileBuffer report totals cost
+  unfolding compiledImage compileBuffer imageSummary totals cost
   compiled-chosen =
       let q = report-admits n table limit (length buffer) r compiled in
       let best = q .0 in
@@ -221,8 +221,8 @@ module _ (n : ℕ) (table : List ℤ) (limit : ℕ) (buffer : List ℕ) (r : Rep
 
 -- Where some grouping fits, Compile gives the image of the chosen one into every buffer that is no shorter, with its cells and its cost.
 pub compile-gives : (n : ℕ) (table : List ℤ) → Accepted n table → (limit : ℕ) → isLimit limit ≡ true → (sizes : List ℕ) → isGrouping n sizes ≡ true → fits n table limit sizes ≡ true
-    → (best : List ℕ) × BestGrouping n table limit best × ((buffer : List ℕ) → length (imageFor n table best) ≤ length buffer → (r : Report) × (compileAnswer n table limit (length buffer) ≡ accepted r) × (compiledImage r (compileBuffer n table limit buffer) ≡ imageFor n table best) × (r .planned .cells ≡ length best) × (r .planned .bits ≡ cost n table best))
-unfolding compileAnswer compiledImage compileBuffer report totals cost
+    → (best : List ℕ) × BestGrouping n table limit best × ((buffer : List ℕ) → length (imageFor n table best) ≤ length buffer → (r : ImageSummary) × (compileAnswer n table limit (length buffer) ≡ accepted r) × (compiledImage r (compileBuffer n table limit buffer) ≡ imageFor n table best) × (r .planned .cells ≡ length best) × (r .planned .bits ≡ cost n table best))
+unfolding compileAnswer compiledImage compileBuffer imageSummary totals cost
 compile-gives n table a limit l sizes grouping fit =
     let some = some-fits-chosen n table limit sizes grouping fit in
     let best = some .0 in (
@@ -230,8 +230,8 @@ compile-gives n table a limit l sizes grouping fit =
       some .1 .1,
       λ buffer room.
           let e = compile-chooses n table a limit (length buffer) l best (some .1 .0) room in (
-            report n table best,
-            ap (mapAnswer (report n table)) e,
+            imageSummary n table best,
+            ap (mapAnswer (imageSummary n table)) e,
             ap (λ answer. take (length (imageFor n table best)) (bufferAfter answer (imageFor n table) buffer)) e ∙ take-append-seam (imageFor n table best) (drop (length (imageFor n table best)) buffer),
             refl,
             refl,

@@ -6,7 +6,7 @@ use lib.Dec.{eqb, leb}
 use lib.IntN.{ℤ, pos}
 use Rattle.numbers.specs.Answers.{Answer}
 use Rattle.cascade.specs.Plan.{Totals, plan, planAnswer, sizeArray, cellArray}
-use Rattle.cascade.specs.Compile.{Report, compileAnswer, compileCells, compileBuffer}
+use Rattle.cascade.specs.Compile.{ImageSummary, compileAnswer, compileCells, compileBuffer}
 use Rattle.cascade.specs.Rows.{cellRow}
 use Rattle.cases.specs.Rows.{sizeAt, byteLent, answerIs, frontHolds, sizesAre}
 
@@ -25,7 +25,7 @@ planPasses numbers table sizes cells =
     && sizesAre (flatMap cellRow (cellArray n table planned)) cells)
 
 -- Compile's outcome is the expected one: its refusal, its length, its node count, its count of cells and its bits.
-unfoldable pub outcomeIs : List ℤ → Answer Report → Bool
+unfoldable pub outcomeIs : List ℤ → Answer ImageSummary → Bool
 outcomeIs numbers answer =
     answerIs (sizeAt numbers 4)
     (λ r.

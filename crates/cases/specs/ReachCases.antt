@@ -4,11 +4,11 @@ use mathlib.Core.List.{List}
 use lib.Dec.{eqb}
 use lib.IntN.{ℤ}
 use Rattle.numbers.specs.Answers.{Answer}
-use Rattle.reach.specs.Reach.{reach, cutArray, Totals, reachAnswer}
+use Rattle.reach.specs.Reach.{reach, cutArray, ReachTotals, reachAnswer}
 use Rattle.cases.specs.Rows.{sizeAt, answerIs, sizesAre}
 
 -- Reach's verdict is the expected one: its refusal, its count of cuts and its least limit.
-unfoldable pub verdictIs : List ℤ → Answer Totals → Bool
+unfoldable pub verdictIs : List ℤ → Answer ReachTotals → Bool
 verdictIs numbers answer = answerIs (sizeAt numbers 3) (λ t. eqb (sizeAt numbers 4) (t .count) && eqb (sizeAt numbers 5) (t .limit)) answer
 
 -- Reach answers so, with these cuts.

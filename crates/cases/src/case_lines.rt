@@ -4,7 +4,7 @@ ghost use Prim.Native.Nat.{_+_, _≤_};
 ghost use lib.ListN.{length, drop};
 ghost use Rattle.cases.specs.Text.{lineLength, ReadsRow};
 use decimal::Item;
-use decimal::Place;
+use decimal::Position;
 
 // The place behind the line that holds this place: behind its newline, or the text's end.
 pub fn behind_line(text: &[u8], start: usize) -> usize
@@ -25,13 +25,13 @@ pub fn behind_line(text: &[u8], start: usize) -> usize
 pub fn read_row(line: &[u8], row: &mut [i32]) -> usize
     ensures { λ r. ⌜ ReadsRow (now (line .entry)) (now (row .entry)) r (now (row .exit)) ⌝ }
 {
-    let mut place = Place { at: 0, line: 1 };
+    let mut place = Position { at: 0, line: 1 };
     let mut count = 0;
     while count < row.len() {
         match decimal::words::next_item(line, place) {
             Item::Valued { number, line, at } => {
                 row[count] = number;
-                place = Place { at, line };
+                place = Position { at, line };
             }
             Item::Other { line: _ } => return count,
             Item::Ended { line: _ } => return count,

@@ -71,7 +71,7 @@ pub(crate) fn put_bytes(bytes: &mut [u8], row: &[i32])
 {
     let mut i = 0;
     while i < row.len() {
-        bytes[i] = (numbers::arithmetic::magnitude(row[i]) % 256) as u8;
+        bytes[i] = (numbers::arithmetic::unsigned_part(row[i]) % 256) as u8;
         i += 1;
     }
 }

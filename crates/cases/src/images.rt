@@ -64,7 +64,7 @@ pub fn expand(numbers: &[i32], image: &[i32], front: &[i32]) -> bool
     }
     crate::fronts::put_bytes(&mut bytes, image);
     let places = crate::rows::size_at(numbers, 1);
-    let mut lent = [crate::fronts::NUMBER; 4096];
+    let mut lent = [crate::fronts::NUMBER; numbers::MOST_VALUES];
     if lent.len() < places {
         return false;
     }

@@ -1,16 +1,16 @@
 // The cases of Reach.
 ghost use mathlib.Core.Path.{_≡_};
-ghost use Rattle.reach.specs.Reach.{judgement};
+ghost use Rattle.reach.specs.Reach.{reachJudgement};
 ghost use Rattle.cases.specs.ReachCases.{verdictIs, reachPasses};
-use reach::Verdict;
+use reach::ReachVerdict;
 
 // Whether Reach's verdict is the expected one.
-fn verdict_is(numbers: &[i32], verdict: Verdict) -> bool
-    ensures { λ r. ⌜ r ≡ verdictIs (now (numbers .entry)) (judgement verdict) ⌝ }
+fn verdict_is(numbers: &[i32], verdict: ReachVerdict) -> bool
+    ensures { λ r. ⌜ r ≡ verdictIs (now (numbers .entry)) (reachJudgement verdict) ⌝ }
 {
     match verdict {
-        Verdict::Cuts { count, least } => crate::rows::two_sizes_are(numbers, count, least),
-        Verdict::Refused(number) => crate::rows::size_at(numbers, 3) == number as usize,
+        ReachVerdict::Cuts { count, least } => crate::rows::two_sizes_are(numbers, count, least),
+        ReachVerdict::Refused(number) => crate::rows::size_at(numbers, 3) == number as usize,
     }
 }
 

@@ -17,7 +17,7 @@ pub fn size_at(row: &[i32], at: usize) -> usize
     ensures { λ r. ⌜ r ≡ sizeAt (now (row .entry)) at ⌝ }
     ensures { λ r. ⌜ r < 4294967296 ⌝ }
 {
-    numbers::arithmetic::magnitude(number_at(row, at, 0)) as usize
+    numbers::arithmetic::unsigned_part(number_at(row, at, 0)) as usize
 }
 
 // Whether the number at a place, or the one past the last, is this one.

@@ -23,7 +23,7 @@ fn filled_is(numbers: &[i32], answer: Summed, table: &[i32], front: &[i32]) -> b
 pub fn sum(numbers: &[i32], weights: &[i32], front: &[i32]) -> bool
     ensures { λ r. ⌜ r ≡ sumPasses (now (numbers .entry)) (now (weights .entry)) (now (front .entry)) ⌝ }
 {
-    let mut lent = [crate::fronts::NUMBER; 4096];
+    let mut lent = [crate::fronts::NUMBER; numbers::MOST_VALUES];
     let n = crate::rows::size_at(numbers, 1);
     let places = crate::rows::size_at(numbers, 2);
     if lent.len() < places {
@@ -37,7 +37,7 @@ pub fn sum(numbers: &[i32], weights: &[i32], front: &[i32]) -> bool
 pub fn remainder(numbers: &[i32], weights: &[i32], front: &[i32]) -> bool
     ensures { λ r. ⌜ r ≡ remainderPasses (now (numbers .entry)) (now (weights .entry)) (now (front .entry)) ⌝ }
 {
-    let mut lent = [crate::fronts::NUMBER; 4096];
+    let mut lent = [crate::fronts::NUMBER; numbers::MOST_VALUES];
     let n = crate::rows::size_at(numbers, 1);
     let places = crate::rows::size_at(numbers, 2);
     if lent.len() < places {

@@ -10,6 +10,7 @@ ghost use Rattle.cascade.specs.Groupings.{cost};
 ghost use Rattle.cascade.specs.Inner.Planned.{groups};
 ghost use Rattle.compiler.specs.Inner.WordWriting.{RowsKnown, CellPlanned};
 ghost use Rattle.compiler.specs.Inner.Writing.{cellBytes, cellsBytes, CellsPlanned};
+ghost use Rattle.image.specs.Commands.{tableSize};
 use cascade::Cell;
 
 // A cell from cut h, written into the tail that is left of the image: its command, then its words. Answers its length.
@@ -28,7 +29,7 @@ fn write_cell(
 {
     crate::commands::write_head(tail, cell.group, cell.incoming, cell.outgoing, cell.width);
     crate::words::write_words(n, h, cell, table, classes, firsts, tail);
-    7 + 7 * (cell.incoming * (1 << cell.group))
+    image::CELL_SIZE + image::WORD_SIZE * (cell.incoming * (1 << cell.group))
 }
 
 // The cell's bytes from a place of the image on; the bytes before that place are unchanged. Answers the place behind them.
@@ -60,10 +61,10 @@ fn write_cells(
     image: &mut [u8],
 ) -> usize
     requires { ⌜ RowsKnown n (now table) (now classes) (now firsts) × CellsPlanned n (now table) cells count (cost n (now table) (groups cells count)) ⌝ }
-    requires { ⌜ 6 + length (cellsBytes n (now table) (groups cells count)) ≤ length (now image) ⌝ }
-    ensures { λ r. ⌜ (r ≡ 6 + length (cellsBytes n (now (table .entry)) (groups cells count))) × (now (image .exit) ≡ overwritten (now (image .entry)) 6 (cellsBytes n (now (table .entry)) (groups cells count))) ⌝ }
+    requires { ⌜ tableSize + length (cellsBytes n (now table) (groups cells count)) ≤ length (now image) ⌝ }
+    ensures { λ r. ⌜ (r ≡ tableSize + length (cellsBytes n (now (table .entry)) (groups cells count))) × (now (image .exit) ≡ overwritten (now (image .entry)) tableSize (cellsBytes n (now (table .entry)) (groups cells count))) ⌝ }
 {
-    let mut at = 6;
+    let mut at = image::TABLE_SIZE;
     let mut h = 0;
     let mut k = 0;
     while k < count {

@@ -3,12 +3,12 @@ ghost use mathlib.Core.Path.{_≡_};
 ghost use Prim.Native.Nat.{_+_, _≤_, _<_};
 ghost use lib.ListN.{length};
 ghost use Rattle.numbers.specs.Inner.Rows.{overwritten};
-ghost use Rattle.image.specs.Commands.{commandBytes};
+ghost use Rattle.image.specs.Commands.{commandBytes, tableSize, cellSize, wordSize, endSize};
 ghost use Rattle.image.specs.declared.Command.the-variants as commands;
 
 // The table command, in front.
 pub(crate) fn write_table(buffer: &mut [u8], n: usize, offset: i32)
-    requires { ⌜ (6 ≤ length (now buffer)) × (n < 256) ⌝ }
+    requires { ⌜ (tableSize ≤ length (now buffer)) × (n < 256) ⌝ }
     ensures { λ _. ⌜ now (buffer .exit) ≡ overwritten (now (buffer .entry)) 0 (commandBytes (commands.Table n offset)) ⌝ }
 {
     buffer[0] = 0x56;
@@ -24,7 +24,7 @@ pub(crate) fn write_head(
     outgoing: usize,
     width: usize,
 )
-    requires { ⌜ (7 ≤ length (now buffer)) × ((group < 256) × (width < 256)) ⌝ }
+    requires { ⌜ (cellSize ≤ length (now buffer)) × ((group < 256) × (width < 256)) ⌝ }
     ensures { λ _. ⌜ now (buffer .exit) ≡ overwritten (now (buffer .entry)) 0 (commandBytes (commands.Cell group incoming outgoing width)) ⌝ }
 {
     buffer[0] = 0x43;
@@ -36,7 +36,7 @@ pub(crate) fn write_head(
 
 // A word at a place.
 pub(crate) fn write_word(buffer: &mut [u8], at: usize, class: usize, weight: i32)
-    requires { ⌜ at + 7 ≤ length (now buffer) ⌝ }
+    requires { ⌜ at + wordSize ≤ length (now buffer) ⌝ }
     ensures { λ _. ⌜ now (buffer .exit) ≡ overwritten (now (buffer .entry)) at (commandBytes (commands.Word class weight)) ⌝ }
 {
     buffer[at] = 0x57;
@@ -46,7 +46,7 @@ pub(crate) fn write_word(buffer: &mut [u8], at: usize, class: usize, weight: i32
 
 // The last command, at a place.
 pub(crate) fn write_end(buffer: &mut [u8], at: usize, bits: usize)
-    requires { ⌜ at + 5 ≤ length (now buffer) ⌝ }
+    requires { ⌜ at + endSize ≤ length (now buffer) ⌝ }
     ensures { λ _. ⌜ now (buffer .exit) ≡ overwritten (now (buffer .entry)) at (commandBytes (commands.End bits)) ⌝ }
 {
     buffer[at] = 0x45;

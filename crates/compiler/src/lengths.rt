@@ -4,12 +4,15 @@ ghost use lib.ListN.{take};
 ghost use Rattle.compiler.specs.Inner.Lengths.{plannedBytes, plannedLength, SmallCell, SmallCells};
 use cascade::Cell;
 
+// The bytes before the cells and behind them.
+const AROUND_CELLS: usize = image::TABLE_SIZE + image::END_SIZE;
+
 // The bytes of a cell: its command and its words.
 fn cell_length(cell: Cell) -> usize
     requires { ⌜ SmallCell cell ⌝ }
     ensures { λ r. ⌜ r ≡ plannedBytes cell ⌝ }
 {
-    7 + 7 * (cell.incoming * (1 << cell.group))
+    image::CELL_SIZE + image::WORD_SIZE * (cell.incoming * (1 << cell.group))
 }
 
 // The bytes of the image of the first so many cells.
@@ -17,7 +20,7 @@ pub(crate) fn image_length(cells: [Cell; cascade::MOST_CELLS], count: usize) -> 
     requires { ⌜ SmallCells cells count ⌝ }
     ensures { λ r. ⌜ r ≡ plannedLength (take count cells) ⌝ }
 {
-    let mut length = 11;
+    let mut length = AROUND_CELLS;
     let mut k = 0;
     while k < count {
         let cell = cells[k];

@@ -18,7 +18,14 @@ pub fn compile(n: usize, table: &[i32], limit: usize, image: &mut [u8]) -> Compi
     let mut classes = [0usize; blocks::ALL_PLACES];
     let mut firsts = [0usize; blocks::ALL_PLACES];
     let mut counts = [0usize; blocks::ALL_CUTS];
-    let planned = planner::plan_in(n, table, limit, &mut classes, &mut firsts, &mut counts);
+    let planned = planner::plan_leaving_classes(
+        n,
+        table,
+        limit,
+        &mut classes,
+        &mut firsts,
+        &mut counts,
+    );
     let verdict = planned.verdict;
     let Verdict::Grouping { cells, bits } = verdict else {
         return crate::placing::not_compiled(crate::placing::refusal(verdict));

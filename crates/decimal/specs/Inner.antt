@@ -1,5 +1,5 @@
 -- Inner.
 pub mod Items
 pub mod Numbers
-pub mod Places
+pub mod Positions
 pub mod Values

@@ -4,7 +4,7 @@ pub mod Conditions
 pub mod Items
 pub mod Lines
 pub mod Numbers
-pub mod Places
+pub mod Positions
 pub mod Tables
 pub mod Values
 pub mod Words

@@ -1,18 +1,18 @@
 // The numbers of the first line.
 ghost use mathlib.Core.Path.{_≡_};
 ghost use Rattle.decimal.specs.Table.{hasMore};
-ghost use Rattle.decimal.specs.Inner.Places.{wordsAt, PlaceIn};
+ghost use Rattle.decimal.specs.Inner.Positions.{wordsAt, PositionIn};
 ghost use Rattle.decimal.specs.Inner.Items.{headingAt};
 use crate::Heading;
 use crate::Item;
-use crate::Place;
+use crate::Position;
 
 // The next word, where it is a number in this range on the first line.
 pub(crate) fn heading(text: &[u8], at: usize, low: i32, high: i32) -> Heading
-    requires { ⌜ PlaceIn (now text) (record { at = at; line = 1 }) ⌝ }
+    requires { ⌜ PositionIn (now text) (record { at = at; line = 1 }) ⌝ }
     ensures { λ r. ⌜ r ≡ headingAt (now (text .entry)) at low high ⌝ }
 {
-    match crate::words::next_item(text, Place { at, line: 1 }) {
+    match crate::words::next_item(text, Position { at, line: 1 }) {
         Item::Valued {
             number,
             line,
@@ -25,7 +25,7 @@ pub(crate) fn heading(text: &[u8], at: usize, low: i32, high: i32) -> Heading
                 return Heading::Missing;
             }
             Heading::Found {
-                number: numbers::arithmetic::magnitude(number) as usize,
+                number: numbers::arithmetic::unsigned_part(number) as usize,
                 at: next,
             }
         }
@@ -36,10 +36,10 @@ pub(crate) fn heading(text: &[u8], at: usize, low: i32, high: i32) -> Heading
 
 // Whether there are more words on the first line, from a place on.
 pub(crate) fn has_more(text: &[u8], at: usize) -> bool
-    requires { ⌜ PlaceIn (now text) (record { at = at; line = 1 }) ⌝ }
+    requires { ⌜ PositionIn (now text) (record { at = at; line = 1 }) ⌝ }
     ensures { λ r. ⌜ r ≡ hasMore (wordsAt (now (text .entry)) (record { at = at; line = 1 })) ⌝ }
 {
-    let next = crate::words::skip(text, Place { at, line: 1 });
+    let next = crate::words::skip(text, Position { at, line: 1 });
     if text.len() <= next.at {
         return false;
     }

@@ -31,7 +31,7 @@ pub enum Parsed {
 }
 
 // A place in a text, and its line.
-pub struct Place {
+pub struct Position {
     pub at: usize,
     pub line: usize,
 }
@@ -62,13 +62,13 @@ pub enum Heading {
 }
 
 // Whether the values are all there, and nothing more.
-pub enum Checked {
+pub enum Body {
     Good,
     Wrong { line: usize, expected: Expected },
 }
 
 // The bytes of a buffer that holds every input.
-const INPUT_ROOM: usize = 16386;
+pub const INPUT_ROOM: usize = 2 + 4 * numbers::MOST_VALUES;
 
 // What follows n and the limit on the first line, from the place behind them.
 fn parse_body(text: &[u8], at: usize, n: usize, limit: usize, input: &mut [u8]) -> Parsed
@@ -81,11 +81,11 @@ fn parse_body(text: &[u8], at: usize, n: usize, limit: usize, input: &mut [u8]) 
             expected: Expected::LineEnd,
         };
     }
-    let mut row = [0i32; 4096];
+    let mut row = [0i32; numbers::MOST_VALUES];
     let count = numbers::arithmetic::power(n);
-    match crate::values::read_values(text, Place { at, line: 1 }, count, &mut row) {
-        Checked::Wrong { line, expected } => Parsed::Wrong { line, expected },
-        Checked::Good => {
+    match crate::values::read_values(text, Position { at, line: 1 }, count, &mut row) {
+        Body::Wrong { line, expected } => Parsed::Wrong { line, expected },
+        Body::Good => {
             crate::values::write_input(input, n, limit, &row[..count]);
             Parsed::Input {
                 length: 2 + 4 * count,

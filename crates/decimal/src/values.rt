@@ -6,23 +6,23 @@ ghost use lib.ListN.{length};
 ghost use Rattle.numbers.specs.Inner.Rows.{overwritten};
 ghost use Rattle.operands.specs.Bytes.{signedBytes};
 ghost use Rattle.decimal.specs.Table.{inputOf};
-ghost use Rattle.decimal.specs.Inner.Places.{PlaceIn};
-ghost use Rattle.decimal.specs.Inner.Values.{valuesAt, checked, ReadsValues, InputReady};
-use crate::Checked;
+ghost use Rattle.decimal.specs.Inner.Positions.{PositionIn};
+ghost use Rattle.decimal.specs.Inner.Values.{valuesAt, bodyJudged, ReadsValues, InputReady};
+use crate::Body;
 use crate::Expected;
 use crate::Item;
-use crate::Place;
+use crate::Position;
 
 // That no word is left from a place on.
-fn check_end(text: &[u8], place: Place) -> Checked
-    requires { ⌜ PlaceIn (now text) place ⌝ }
-    ensures { λ r. ⌜ r ≡ checked (valuesAt (now (text .entry)) place 0) ⌝ }
+fn check_end(text: &[u8], place: Position) -> Body
+    requires { ⌜ PositionIn (now text) place ⌝ }
+    ensures { λ r. ⌜ r ≡ bodyJudged (valuesAt (now (text .entry)) place 0) ⌝ }
 {
     let next = crate::words::skip(text, place);
     if text.len() <= next.at {
-        return Checked::Good;
+        return Body::Good;
     }
-    Checked::Wrong {
+    Body::Wrong {
         line: next.line,
         expected: Expected::TextEnd,
     }
@@ -30,8 +30,8 @@ fn check_end(text: &[u8], place: Place) -> Checked
 
 // So many values from a place on, into the front of the lent row, and then nothing more. Where the text goes wrong the row has
 // those before.
-pub(crate) fn read_values(text: &[u8], start: Place, count: usize, values: &mut [i32]) -> Checked
-    requires { ⌜ PlaceIn (now text) start ⌝ }
+pub(crate) fn read_values(text: &[u8], start: Position, count: usize, values: &mut [i32]) -> Body
+    requires { ⌜ PositionIn (now text) start ⌝ }
     requires { ⌜ count ≤ length (now values) ⌝ }
     ensures { λ r. ⌜ ReadsValues (now (text .entry)) start count (now (values .entry)) r (now (values .exit)) ⌝ }
 {
@@ -41,16 +41,16 @@ pub(crate) fn read_values(text: &[u8], start: Place, count: usize, values: &mut 
         match crate::words::next_item(text, place) {
             Item::Valued { number, line, at } => {
                 values[j] = number;
-                place = Place { at, line };
+                place = Position { at, line };
             }
             Item::Other { line } => {
-                return Checked::Wrong {
+                return Body::Wrong {
                     line,
                     expected: Expected::Value,
                 };
             }
             Item::Ended { line } => {
-                return Checked::Wrong {
+                return Body::Wrong {
                     line,
                     expected: Expected::Value,
                 };

@@ -3,11 +3,11 @@ ghost use mathlib.Core.Path.{_≡_};
 ghost use Prim.Native.Nat.{_+_, _≤_};
 ghost use lib.ListN.{length, drop};
 ghost use Rattle.decimal.specs.Words.{isBlank};
-ghost use Rattle.decimal.specs.Inner.Places.{isSeparator, PlaceIn, skipped, wordLength};
+ghost use Rattle.decimal.specs.Inner.Positions.{isSeparator, PositionIn, skipped, wordLength};
 ghost use Rattle.decimal.specs.Inner.Items.{itemAt};
 use crate::Item;
 use crate::Number;
-use crate::Place;
+use crate::Position;
 
 fn is_blank(byte: u8) -> bool
     ensures { λ r. ⌜ r ≡ isBlank byte ⌝ }
@@ -31,22 +31,22 @@ fn is_separator(byte: u8) -> bool
 }
 
 // Past the blanks and newlines from a place on.
-pub(crate) fn skip(text: &[u8], place: Place) -> Place
-    requires { ⌜ PlaceIn (now text) place ⌝ }
+pub(crate) fn skip(text: &[u8], place: Position) -> Position
+    requires { ⌜ PositionIn (now text) place ⌝ }
     ensures { λ r. ⌜ r ≡ skipped (now (text .entry)) place ⌝ }
 {
     let mut at = place.at;
     let mut line = place.line;
     while at < text.len() {
         if !is_separator(text[at]) {
-            return Place { at, line };
+            return Position { at, line };
         }
         if text[at] == b'\n' {
             line += 1;
         }
         at += 1;
     }
-    Place { at, line }
+    Position { at, line }
 }
 
 // The end of the word that starts at a place.
@@ -65,8 +65,8 @@ fn word_end(text: &[u8], start: usize) -> usize
 }
 
 // What comes next, from a place on.
-pub fn next_item(text: &[u8], place: Place) -> Item
-    requires { ⌜ PlaceIn (now text) place ⌝ }
+pub fn next_item(text: &[u8], place: Position) -> Item
+    requires { ⌜ PositionIn (now text) place ⌝ }
     ensures { λ r. ⌜ r ≡ itemAt (now (text .entry)) place ⌝ }
 {
     let first = skip(text, place);

@@ -10,7 +10,7 @@ use Rattle.numbers.specs.Widths.{weightWidth}
 use Rattle.blocks.specs.Classes.{railAt}
 use Rattle.diagram.specs.Walk.{variableAt, lowAt, highAt, weightAt, leastAt, greatestAt, pathWeight}
 use Rattle.image.specs.Cells.{Card}
-use Rattle.image.specs.Commands.{imageOf}
+use Rattle.image.specs.Commands.{endSize, imageOf}
 use Rattle.image.specs.Reader.{end, due, dueByte, dueSize, commandAt, placeAfter, start}
 use Rattle.image.specs.WellFormed.{KeepsShape, KeepsWord, WellFormed}
 use Rattle.image.specs.declared.Command.{Command}
@@ -132,17 +132,17 @@ placeChecks image p =
     ∷ (getD image (p .at) 0 ≡ dueByte (due p)) otherwise 12
     ∷ (p .at + dueSize (due p) ≤ length image) otherwise 11
     ∷ OperandRules p (commandHere image p) otherwise 13
-    ∷ (due p ≡ end → length image ≡ p .at + 5) otherwise 14
+    ∷ (due p ≡ end → length image ≡ p .at + endSize) otherwise 14
     ∷ []
 
 -- The places that checking from the left comes to: the start, and after each command but 0x45 that keeps to its checks the place behind it.
-pub data Reached (image : List ℕ) : Place → Type 0 where
-  first : Reached image start
-  next : (p : Place) → Reached image p → AllHold (placeChecks image p) → ¬ (due p ≡ end) → Reached image (placeAfter p (commandHere image p))
+pub data ComesTo (image : List ℕ) : Place → Type 0 where
+  first : ComesTo image start
+  next : (p : Place) → ComesTo image p → AllHold (placeChecks image p) → ¬ (due p ≡ end) → ComesTo image (placeAfter p (commandHere image p))
 
 -- Checking from the left finds a fault of this number: that of the first check which fails at a place that is reached.
 unfoldable pub ImageFault : List ℕ → ℕ → Type 0
-ImageFault image k = (p : Place) × (Reached image p × FirstFails (placeChecks image p) k)
+ImageFault image k = (p : Place) × (ComesTo image p × FirstFails (placeChecks image p) k)
 
 -- The image is that of a card which keeps every rule.
 unfoldable pub ImageOf : List ℕ → Card → Type 0

@@ -22,7 +22,7 @@ use Rattle.cascade.specs.Cascade.{wordOf, wordsOf, cellOf, cellsFrom, cardFor}
 use Rattle.cascade.specs.Groupings.{descending, closing, groupingsWithin, groupings, addressWidth, fitsFrom, fits, cost, cheapest, firstCheapest, chosen}
 use Rattle.cascade.specs.Plan.{plan, planCell, planCells, noCell, entries, sizeArray, cellArray, totals, planAnswer}
 use Rattle.cascade.specs.declared.Cell.{Cell as PlanCell}
-use Rattle.cascade.specs.Compile.{imageFor, compile, report, compileAnswer, compileCells, compileBuffer}
+use Rattle.cascade.specs.Compile.{imageFor, compile, imageSummary, compileAnswer, compileCells, compileBuffer}
 use Rattle.lines.specs.Text.{ascii, decimalDigits, decimal, fields, line}
 use Rattle.listing.specs.Listing.{mostListed, isListed, imageRoom, tableOf, listed, shownNumbers, nodeLine, nodeLines, cellLine, tableText, answerText, listing}
 
@@ -120,5 +120,5 @@ cases =
 
 -- Every case's answer is the paper's.
 checked-values : map (λ c. answer (c .question)) cases ≡ map (λ c. c .expected) cases
-unfolding cases asks answer numbers text figure smallImage cellNumbers filled array oneCell numbersFrom every keep tally sumOf leastFrom least mostVariables widestAddress isVariables isLimit within isValue eqZ railWidth holds holdsUnsigned enough leastWidth noneNegative weightWidth cellBits block blocks first lowerHalf upperHalf differences same numberIn learn learnAll distinct classes classCount classOf railAt useCount classesAt useCounts mostUses commonest commonestAt branches kinds recordsBelow node recordOf recordsAt records recordNumbers recordSize offset nodeCount ofTable nodeRoom build buildAnswer stepAt isJump jumps risingKinds nodeBound bigEndian signedBytes number unsignedAt signedAt bitsOf totalBits commandBytes wordCommand cellCommands cardCommands imageOf wordOf wordsOf cellOf cellsFrom cardFor descending closing groupingsWithin groupings addressWidth fitsFrom fits cost cheapest firstCheapest chosen plan planCell planCells noCell entries sizeArray cellArray totals planAnswer imageFor compile report compileAnswer compileCells compileBuffer padded ascii decimalDigits decimal fields line mostListed isListed imageRoom tableOf listed shownNumbers nodeLine nodeLines cellLine tableText answerText listing flatMap
+unfolding cases asks answer numbers text figure smallImage cellNumbers filled array oneCell numbersFrom every keep tally sumOf leastFrom least mostVariables widestAddress isVariables isLimit within isValue eqZ railWidth holds holdsUnsigned enough leastWidth noneNegative weightWidth cellBits block blocks first lowerHalf upperHalf differences same numberIn learn learnAll distinct classes classCount classOf railAt useCount classesAt useCounts mostUses commonest commonestAt branches kinds recordsBelow node recordOf recordsAt records recordNumbers recordSize offset nodeCount ofTable nodeRoom build buildAnswer stepAt isJump jumps risingKinds nodeBound bigEndian signedBytes number unsignedAt signedAt bitsOf totalBits commandBytes wordCommand cellCommands cardCommands imageOf wordOf wordsOf cellOf cellsFrom cardFor descending closing groupingsWithin groupings addressWidth fitsFrom fits cost cheapest firstCheapest chosen plan planCell planCells noCell entries sizeArray cellArray totals planAnswer imageFor compile imageSummary compileAnswer compileCells compileBuffer padded ascii decimalDigits decimal fields line mostListed isListed imageRoom tableOf listed shownNumbers nodeLine nodeLines cellLine tableText answerText listing flatMap
 checked-values = refl

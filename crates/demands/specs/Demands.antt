@@ -16,7 +16,7 @@ use Rattle.operands.specs.Bytes.{AreBytes}
 use Rattle.image.specs.Cells.{Card, Cell, totalBits}
 use Rattle.image.specs.Run.{run, runCard, expand, expandBuffer, cardValues}
 use Rattle.image.specs.Theorems as images
-use Rattle.cascade.specs.Compile.{imageFor, report, compileAnswer, compileCells, compileBuffer, Report, compiledImage}
+use Rattle.cascade.specs.Compile.{imageFor, imageSummary, compileAnswer, compileCells, compileBuffer, ImageSummary, compiledImage}
 use Rattle.cascade.specs.Groupings.{BestGrouping, isGrouping, fits, cost}
 use Rattle.cascade.specs.Plan.{plan, planCells, noCell, sizeArray, cellArray, totals, planAnswer}
 use Rattle.demands.specs.Checks.{Check, AllHold, FirstFails, Decided}
@@ -111,7 +111,7 @@ module _ (n : ℕ) (table : List ℤ) (limit : ℕ) where
   compile-decided = decided-compile n table limit
 
   -- Admitted: the image's length, Build's node count and Plan's totals for the chosen grouping, and beside them its cells.
-  pub compile-answers : (room : ℕ) → AllHold (compileChecks n table limit room) → (best : List ℕ) → BestGrouping n table limit best → compileAnswer n table limit room ≡ accepted (report n table best)
+  pub compile-answers : (room : ℕ) → AllHold (compileChecks n table limit room) → (best : List ℕ) → BestGrouping n table limit best → compileAnswer n table limit room ≡ accepted (imageSummary n table best)
   compile-answers = compile-value n table limit
 
   pub compile-lists : (room : ℕ) → AllHold (compileChecks n table limit room) → (best : List ℕ) → BestGrouping n table limit best → compileCells n table limit room ≡ padded 12 noCell (planCells n table 0 best)
@@ -189,16 +189,16 @@ pub equal-buffers-differ-by-a-constant : (n : ℕ) (f g buffer buffer′ : List 
 equal-buffers-differ-by-a-constant = diagrams.equal-builds
 
 -- Expanding a compiled image returns its table.
-pub expanding-returns-the-table : (n : ℕ) (table : List ℤ) (limit : ℕ) (buffer : List ℕ) (r : Report) → compileAnswer n table limit (length buffer) ≡ accepted r → expand (compiledImage r (compileBuffer n table limit buffer)) (2 ^ n) ≡ accepted table
+pub expanding-returns-the-table : (n : ℕ) (table : List ℤ) (limit : ℕ) (buffer : List ℕ) (r : ImageSummary) → compileAnswer n table limit (length buffer) ≡ accepted r → expand (compiledImage r (compileBuffer n table limit buffer)) (2 ^ n) ≡ accepted table
 expanding-returns-the-table = cascades.compiled-expands
 
 -- Demand 3. Where some grouping fits and the buffer is long enough, Compile writes the chosen grouping's image.
 
 pub compile-gives-the-chosen-image : (n : ℕ) (table : List ℤ) → Accepted n table → (limit : ℕ) → isLimit limit ≡ true → (sizes : List ℕ) → isGrouping n sizes ≡ true → fits n table limit sizes ≡ true
-    → (best : List ℕ) × BestGrouping n table limit best × ((buffer : List ℕ) → length (imageFor n table best) ≤ length buffer → (r : Report) × (compileAnswer n table limit (length buffer) ≡ accepted r) × (compiledImage r (compileBuffer n table limit buffer) ≡ imageFor n table best) × (r .planned .cells ≡ length best) × (r .planned .bits ≡ cost n table best))
+    → (best : List ℕ) × BestGrouping n table limit best × ((buffer : List ℕ) → length (imageFor n table best) ≤ length buffer → (r : ImageSummary) × (compileAnswer n table limit (length buffer) ≡ accepted r) × (compiledImage r (compileBuffer n table limit buffer) ≡ imageFor n table best) × (r .planned .cells ≡ length best) × (r .planned .bits ≡ cost n table best))
 compile-gives-the-chosen-image = cascades.compile-gives
 
-module _ (n : ℕ) (table : List ℤ) (limit : ℕ) (buffer : List ℕ) (r : Report) (compiled : compileAnswer n table limit (length buffer) ≡ accepted r) where
+module _ (n : ℕ) (table : List ℤ) (limit : ℕ) (buffer : List ℕ) (r : ImageSummary) (compiled : compileAnswer n table limit (length buffer) ≡ accepted r) where
   -- The compiled image.
   abbrev image : List ℕ
   image = compiledImage r (compileBuffer n table limit buffer)

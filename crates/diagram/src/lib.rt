@@ -8,12 +8,6 @@ pub enum Built {
     Refused(u8),
 }
 
-// The outcome of the checks on a table, or on a record list.
-pub enum Checked {
-    Passed,
-    Refused(u8),
-}
-
 // Walk's answer.
 pub enum Walked {
     Value(i32),
@@ -27,7 +21,7 @@ pub struct Edge {
 }
 
 // What a path has reached: the value so far, and the next node.
-pub struct Reached {
+pub struct Waypoint {
     pub value: i32,
     pub node: usize,
 }

@@ -6,8 +6,9 @@ ghost use lib.ListN.{length, getD};
 ghost use lib.IntN.{pos};
 ghost use Rattle.numbers.specs.Lists.{every};
 ghost use Rattle.numbers.specs.Ranges.{isValue};
-ghost use Rattle.diagram.specs.Inner.Checks.{tableChecks, checked};
-use crate::Checked;
+ghost use Rattle.diagram.specs.Inner.Checks.{tableChecks};
+ghost use Rattle.numbers.specs.Inner.Checks.{checked};
+use numbers::Checked;
 
 // Whether value x is in range.
 fn value_fits(table: &[i32], x: usize) -> bool

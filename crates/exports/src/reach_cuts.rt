@@ -1,6 +1,6 @@
 // Reach through C. It requires nothing of its caller; a refusal leaves every lent buffer as it was.
 ghost use Rattle.exports.specs.ReachGiven.{ReachGiven};
-use reach::Verdict;
+use reach::ReachVerdict;
 
 // Reach: the cuts that fitting cells arrive at, their count and the least limit that fits, or the refusal's number.
 #[no_mangle]
@@ -17,7 +17,7 @@ pub extern "C" fn panstrait_reach(
     let reached = reach::reach(n, table, limit);
     let verdict = reached.verdict;
     match verdict {
-        Verdict::Cuts {
+        ReachVerdict::Cuts {
             count: number,
             least: lowest,
         } => {
@@ -27,6 +27,6 @@ pub extern "C" fn panstrait_reach(
             *least = lowest;
             0
         }
-        Verdict::Refused(number) => number,
+        ReachVerdict::Refused(number) => number,
     }
 }

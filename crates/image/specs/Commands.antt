@@ -14,6 +14,19 @@ commandBytes (commands.Cell group incoming outgoing width) = 0x43 ∷ bigEndian 
 commandBytes (commands.Word class weight) = 0x57 ∷ bigEndian 2 class ++ signedBytes weight
 commandBytes (commands.End bits) = 0x45 ∷ bigEndian 4 bits
 
+-- The bytes that each command takes, its operands included.
+abbrev pub tableSize : ℕ
+tableSize = 6
+
+abbrev pub cellSize : ℕ
+cellSize = 7
+
+abbrev pub wordSize : ℕ
+wordSize = 7
+
+abbrev pub endSize : ℕ
+endSize = 5
+
 -- A word's command.
 unfoldable pub wordCommand : Word → Command
 wordCommand word = commands.Word (word .class) (word .weight)

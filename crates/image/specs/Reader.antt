@@ -9,6 +9,7 @@ use Rattle.numbers.specs.Answers.{Answer, accepted, refused, unless, mapAnswer,
 use Rattle.numbers.specs.Ranges.{isVariables, isValue, isWeight, eqZ, lesser, greater, widestAddress}
 use Rattle.numbers.specs.Widths.{addressBits, weightWidth, cellBits}
 use Rattle.operands.specs.Bytes.{unsignedAt, signedAt}
+use Rattle.image.specs.Commands.{tableSize, cellSize, wordSize, endSize}
 use Rattle.image.specs.declared.Command.{Command}
 use Rattle.image.specs.declared.Command.the-variants.{Table, Cell, Word, End}
 use Rattle.image.specs.declared.Place.{Place}
@@ -35,10 +36,10 @@ dueByte end = 0x45
 
 -- The bytes of a command with its operands.
 unfoldable pub dueSize : Due → ℕ
-dueSize table = 6
-dueSize cell = 7
-dueSize word = 7
-dueSize end = 5
+dueSize table = tableSize
+dueSize cell = cellSize
+dueSize word = wordSize
+dueSize end = endSize
 
 -- The command whose byte stands at a place, with the operands after it.
 unfoldable pub commandAt : Due → List ℕ → ℕ → Command
@@ -67,7 +68,7 @@ keepsRules p (End bits) = eqb bits (p .bits)
 -- The place after a command.
 unfoldable pub placeAfter : Place → Command → Place
 placeAfter p (Table n offset) = record {
-  at = p .at + 6;
+  at = p .at + tableSize;
   n = n;
   left = n;
   classes = 1;
@@ -79,7 +80,7 @@ placeAfter p (Table n offset) = record {
   bits = 0;
 }
 placeAfter p (Cell group incoming outgoing width) = record {
-  at = p .at + 7;
+  at = p .at + cellSize;
   n = p .n;
   left = p .left - group;
   classes = outgoing;
@@ -91,7 +92,7 @@ placeAfter p (Cell group incoming outgoing width) = record {
   bits = p .bits + cellBits incoming group outgoing width;
 }
 placeAfter p (Word class weight) = record {
-  at = p .at + 7;
+  at = p .at + wordSize;
   n = p .n;
   left = p .left;
   classes = p .classes;
@@ -103,7 +104,7 @@ placeAfter p (Word class weight) = record {
   bits = p .bits;
 }
 placeAfter p (End bits) = record {
-  at = p .at + 5;
+  at = p .at + endSize;
   n = p .n;
   left = p .left;
   classes = p .classes;
@@ -124,7 +125,7 @@ unfoldable pub endsWell : List ℕ → Place → Command → Bool
 endsWell image p (Table n offset) = true
 endsWell image p (Cell group incoming outgoing width) = true
 endsWell image p (Word class weight) = true
-endsWell image p (End bits) = eqb (length image) (p .at + 5)
+endsWell image p (End bits) = eqb (length image) (p .at + endSize)
 
 -- What is judged of a command whose operands are all there: 13, and after 0x45 also 14.
 unfoldable pub judged : List ℕ → Place → Command → Answer (Command × Place)

@@ -4,6 +4,18 @@ ghost use mathlib.Core.Path.{_≡_};
 ghost use Rattle.numbers.specs.Widths.{cellBits};
 ghost use Rattle.image.specs.Inner.Bounds.{CellFits};
 
+// The bytes that each command takes, its operands included.
+pub const TABLE_SIZE: usize = 6;
+
+pub const CELL_SIZE: usize = 7;
+
+pub const WORD_SIZE: usize = 7;
+
+pub const END_SIZE: usize = 5;
+
+// The most classes that a cut has: those of single values, were all of them different.
+pub const MOST_CLASSES: usize = numbers::MOST_VALUES;
+
 // A command of the image with its operands.
 pub enum Command {
     // 0x56: variables and offset.
@@ -74,12 +86,6 @@ pub enum Kind {
     Cell,
     Word,
     End,
-}
-
-// Whether a whole image is accepted.
-pub enum Checked {
-    Whole,
-    Refused(u8),
 }
 
 // Where evaluation stands: the next cell, the variables left, the class, and what the cells so far gave.

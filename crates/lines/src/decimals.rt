@@ -40,10 +40,10 @@ pub(crate) fn write_signed(text: &mut [u8], at: usize, number: i32) -> usize
     requires { ⌜ at + length (decimal number) ≤ length (now text) ⌝ }
     ensures { λ r. ⌜ Writes (now (text .entry)) at (decimal number) r (now (text .exit)) ⌝ }
 {
-    let magnitude = numbers::arithmetic::magnitude(number) as usize;
+    let part = numbers::arithmetic::unsigned_part(number) as usize;
     if number < 0 {
         text[at] = b'-';
-        return write_number(text, at + 1, magnitude + 1);
+        return write_number(text, at + 1, part + 1);
     }
-    write_number(text, at, magnitude)
+    write_number(text, at, part)
 }

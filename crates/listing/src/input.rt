@@ -12,7 +12,7 @@ pub(crate) fn is_listed(n: usize) -> bool
     if n < 1 {
         return false;
     }
-    n <= 11
+    n <= crate::MOST_LISTED
 }
 
 // The values behind the first two bytes, as many as there are places.

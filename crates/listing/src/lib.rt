@@ -15,6 +15,14 @@ ghost use Rattle.listing.specs.Inner.Listed.{InputCounted};
 ghost use Rattle.lines.specs.Inner.Writing.{Writes};
 ghost use Rattle.listing.specs.Text.{ListsKept};
 
+// The most variables of a table that is listed, and the values of such a table.
+pub(crate) const MOST_LISTED: usize = 11;
+
+pub(crate) const LISTED_VALUES: usize = 2048;
+
+// The bytes of a buffer that holds the text of every input.
+pub const TEXT_ROOM: usize = 113248;
+
 // What listing answers: the text's length, or that the buffer is too short for the text of some input.
 pub enum Listed {
     Text { length: usize },
@@ -49,12 +57,9 @@ pub fn list_input(input: &[u8], text: &mut [u8]) -> usize
     if input.len() != 2 + 4 * count {
         return lines::fields::write_refusal(text, 2);
     }
-    let mut values = [0i32; 2048];
+    let mut values = [0i32; LISTED_VALUES];
     list_values(input, n, limit, &mut values, text)
 }
-
-// The bytes of a buffer that holds the text of every input.
-pub const TEXT_ROOM: usize = 113248;
 
 // The listing program's text for an input, written into the lent buffer where that holds the text of every input.
 pub fn list(input: &[u8], text: &mut [u8]) -> Listed

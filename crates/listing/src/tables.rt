@@ -10,6 +10,9 @@ ghost use Rattle.lines.specs.Inner.Writing.{Writes};
 use cascade::Cell;
 use cascade::Verdict;
 
+// The numbers of the records that a listed table can have.
+const NODE_ROOM: usize = diagram::records::RECORD_SIZE * (crate::LISTED_VALUES - 1);
+
 // The text of an accepted table and of its planned cells, in front. Answers its length.
 fn write_table(
     n: usize,

@@ -1,3 +1,4 @@
 -- Inner.
 pub mod Bits
+pub mod Checks
 pub mod Rows

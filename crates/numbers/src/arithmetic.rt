@@ -1,17 +1,17 @@
-// Powers of two, magnitudes, and numbers beside each other: what the other crates reckon with.
+// Powers of two, unsigned parts, the paper's ranges, and numbers beside each other: what the other crates reckon with.
 ghost use mathlib.Core.Path.{_≡_};
 ghost use Prim.Native.Nat.{_^_, _<_};
 ghost use lib.Signed.{mag};
 ghost use Rattle.numbers.specs.Ranges.{isVariables, isLimit, within, isValue, isWeight, lesser, greater};
 
-// n both for n and for -(n + 1).
-pub fn magnitude(weight: i32) -> u32
-    ensures { λ r. ⌜ r ≡ mag weight ⌝ }
+// The unsigned part of a number, which two's complement writes beside its sign: n both for n and for -(n + 1).
+pub fn unsigned_part(number: i32) -> u32
+    ensures { λ r. ⌜ r ≡ mag number ⌝ }
 {
-    if weight < 0 {
-        (-1 - weight) as u32
+    if number < 0 {
+        (-1 - number) as u32
     } else {
-        weight as u32
+        number as u32
     }
 }
 
@@ -44,7 +44,7 @@ pub fn is_limit(limit: usize) -> bool
 }
 
 // Whether a number lies within a range.
-fn is_within(low: i32, high: i32, number: i32) -> bool
+pub fn is_within(low: i32, high: i32, number: i32) -> bool
     ensures { λ r. ⌜ r ≡ within low high number ⌝ }
 {
     if low <= number {

@@ -9,3 +9,9 @@ pub const MOST_VALUES: usize = 4096;
 
 // The widest address of a cell, which is the greatest address limit too.
 pub const WIDEST_ADDRESS: usize = 12;
+
+// The outcome of an operation's checks: passed, or the number of the first that fails.
+pub enum Checked {
+    Passed,
+    Refused(u8),
+}

@@ -21,13 +21,13 @@ pub fn rail_width(count: u32) -> usize
     bit_length(count - 1)
 }
 
-// The weight width of a cell, from its least and its greatest weight: the bits of the greater magnitude, and one more for the sign
+// The weight width of a cell, from its least and its greatest weight: the bits of the greater unsigned part, and one more for the sign
 // where a weight is negative.
 pub fn weight_width(least: i32, greatest: i32) -> usize
     ensures { λ r. ⌜ r ≡ weightWidth (least ∷ greatest ∷ []) ⌝ }
 {
-    let low = crate::arithmetic::magnitude(least);
-    let high = crate::arithmetic::magnitude(greatest);
+    let low = crate::arithmetic::unsigned_part(least);
+    let high = crate::arithmetic::unsigned_part(greatest);
     let bits = bit_length(if low < high { high } else { low });
     if least < 0 || greatest < 0 {
         1 + bits

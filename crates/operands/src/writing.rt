@@ -28,10 +28,10 @@ pub fn write_signed(buffer: &mut [u8], at: usize, number: i32)
     requires { ⌜ at + 4 ≤ length (now buffer) ⌝ }
     ensures { λ _. ⌜ now (buffer .exit) ≡ overwritten (now (buffer .entry)) at (signedBytes number) ⌝ }
 {
-    let magnitude = numbers::arithmetic::magnitude(number) as usize;
+    let part = numbers::arithmetic::unsigned_part(number) as usize;
     if number < 0 {
-        write_four(buffer, at, 4294967295 - magnitude);
+        write_four(buffer, at, 4294967295 - part);
     } else {
-        write_four(buffer, at, magnitude);
+        write_four(buffer, at, part);
     }
 }

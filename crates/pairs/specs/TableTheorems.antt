@@ -11,7 +11,7 @@ use Rattle.numbers.specs.Ranges.{isLimit}
 use Rattle.blocks.specs.Blocks.{block, blocks}
 use Rattle.blocks.specs.Laws.Blocks.{blocks-count, block-at, blocks-append}
 use Rattle.diagram.specs.Accepted.{Accepted}
-use Rattle.cascade.specs.Compile.{imageFor, Report, compileAnswer, compileBuffer, compiledImage}
+use Rattle.cascade.specs.Compile.{imageFor, ImageSummary, compileAnswer, compileBuffer, compiledImage}
 use Rattle.cascade.specs.Groupings.{BestGrouping, isGrouping, fits}
 use Rattle.cascade.specs.Theorems.{compile-gives}
 use Rattle.pairs.specs.Pairs.{pairRun}
@@ -35,7 +35,7 @@ rows-in-order m table size = blocks-append (2 * m) table m (omega arith) size
 
 -- ---- compiled
 
-module _ (m : ℕ) (table : List ℤ) (limit : ℕ) (buffer : List ℕ) (r : Report) (compiled : compileAnswer (2 * m) table limit (length buffer) ≡ accepted r) where
+module _ (m : ℕ) (table : List ℤ) (limit : ℕ) (buffer : List ℕ) (r : ImageSummary) (compiled : compileAnswer (2 * m) table limit (length buffer) ≡ accepted r) where
   -- The compiled image.
   abbrev image : List ℕ
   image = compiledImage r (compileBuffer (2 * m) table limit buffer)
@@ -55,7 +55,7 @@ module _ (m : ℕ) (table : List ℤ) (limit : ℕ) (buffer : List ℕ) (r : Rep
 -- For every accepted table with n = 2m and every limit that some grouping fits: Compile gives an image into every buffer that is no
 -- shorter, and on it every pair gives the entry in row X, column Y, with one word read for each group of the chosen grouping.
 pub every-pair : (m : ℕ) (table : List ℤ) → Accepted (2 * m) table → (limit : ℕ) → isLimit limit ≡ true → (sizes : List ℕ) → isGrouping (2 * m) sizes ≡ true → fits (2 * m) table limit sizes ≡ true
-    → (best : List ℕ) × BestGrouping (2 * m) table limit best × ((buffer : List ℕ) → length (imageFor (2 * m) table best) ≤ length buffer → (r : Report) × (compileAnswer (2 * m) table limit (length buffer) ≡ accepted r) × ((x y : ℕ) → x < 2 ^ m → y < 2 ^ m → pairRun m (compiledImage r (compileBuffer (2 * m) table limit buffer)) x y ≡ accepted (record { value = entryAt m table x y; words = length best })))
+    → (best : List ℕ) × BestGrouping (2 * m) table limit best × ((buffer : List ℕ) → length (imageFor (2 * m) table best) ≤ length buffer → (r : ImageSummary) × (compileAnswer (2 * m) table limit (length buffer) ≡ accepted r) × ((x y : ℕ) → x < 2 ^ m → y < 2 ^ m → pairRun m (compiledImage r (compileBuffer (2 * m) table limit buffer)) x y ≡ accepted (record { value = entryAt m table x y; words = length best })))
 every-pair m table admitted limit l sizes grouping fit =
     let given = compile-gives (2 * m) table admitted limit l sizes grouping fit in (
       given .0,

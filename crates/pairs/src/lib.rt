@@ -5,8 +5,8 @@ ghost use mathlib.Core.Path.{_≡_};
 ghost use mathlib.Core.Bool.{true};
 ghost use Rattle.image.specs.Run.{ran};
 ghost use Rattle.pairs.specs.Pairs.{isPairBits, isPair, pairIndex, pairRun};
-use image::Checked;
 use image::Ran;
+use numbers::Checked;
 
 // Whether m is a number of bits that X and Y may have.
 fn is_pair_bits(m: usize) -> bool
@@ -46,7 +46,7 @@ pub fn pair_run(m: usize, image: &[u8], x: usize, y: usize) -> Ran
     }
     match reader::check_for(image, 2 * m) {
         Checked::Refused(number) => Ran::Refused(number),
-        Checked::Whole => {
+        Checked::Passed => {
             if !is_pair(m, x, y) {
                 return Ran::Refused(17);
             }

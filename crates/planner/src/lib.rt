@@ -9,7 +9,7 @@ ghost use Rattle.planner.specs.Inner.Rows.{RowsRoom, RowsLeft};
 use cascade::Planned;
 
 // Plan, with the classes of all cuts left in the lent rows.
-pub fn plan_in(
+pub fn plan_leaving_classes(
     n: usize,
     table: &[i32],
     limit: usize,
@@ -22,8 +22,8 @@ pub fn plan_in(
     ensures { λ r. ⌜ RowsLeft n (now (table .entry)) limit (now (classes .entry)) (now (firsts .entry)) (now (counts .entry)) (now (classes .exit)) (now (firsts .exit)) (now (counts .exit)) ⌝ }
 {
     match diagram::tables::check_table(n, table) {
-        diagram::Checked::Refused(number) => planning::refused_plan(number),
-        diagram::Checked::Passed => {
+        numbers::Checked::Refused(number) => planning::refused_plan(number),
+        numbers::Checked::Passed => {
             if !numbers::arithmetic::is_limit(limit) {
                 return planning::refused_plan(8);
             }
@@ -39,5 +39,5 @@ pub fn plan(n: usize, table: &[i32], limit: usize) -> Planned
     let mut classes = [0usize; blocks::ALL_PLACES];
     let mut firsts = [0usize; blocks::ALL_PLACES];
     let mut counts = [0usize; blocks::ALL_CUTS];
-    plan_in(n, table, limit, &mut classes, &mut firsts, &mut counts)
+    plan_leaving_classes(n, table, limit, &mut classes, &mut firsts, &mut counts)
 }

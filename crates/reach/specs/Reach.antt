@@ -13,8 +13,8 @@ use Rattle.diagram.specs.Build.{ofTable}
 use Rattle.cascade.specs.Groupings.{groupings, fits}
 use Rattle.cascade.specs.Plan.{entries}
 use Rattle.reach.specs.declared.Reached.{Reached}
-use Rattle.reach.specs.declared.Verdict.{Verdict}
-use Rattle.reach.specs.declared.Verdict.the-variants.{Cuts, Refused}
+use Rattle.reach.specs.declared.ReachVerdict.{ReachVerdict}
+use Rattle.reach.specs.declared.ReachVerdict.the-variants.{Cuts, Refused}
 
 -- Cut h is arrived at: of the lists of sizes that take the top h variables, at least one has only cells that fit the limit.
 unfoldable pub isReached : ℕ → List ℤ → ℕ → ℕ → Bool
@@ -29,38 +29,38 @@ unfoldable pub leastLimit : ℕ → List ℤ → ℕ
 leastLimit n table = least (λ limit. isReached n table limit n) n
 
 -- What is found: those cuts, and that limit.
-pub record Found : Type 0 where
+pub record Reachable : Type 0 where
   pub cuts : List ℕ
   pub limit : ℕ
 
-unfoldable pub found : ℕ → List ℤ → ℕ → Found
-found n table limit = record { cuts = reachedCuts n table limit; limit = leastLimit n table }
+unfoldable pub reachable : ℕ → List ℤ → ℕ → Reachable
+reachable n table limit = record { cuts = reachedCuts n table limit; limit = leastLimit n table }
 
 -- Reach's answer: Plan's checks in their order, and no 9.
-unfoldable pub reach : ℕ → List ℤ → ℕ → Answer Found
-reach n table limit = ofTable n table (unless (isLimit limit) 8 (accepted (found n table limit)))
+unfoldable pub reach : ℕ → List ℤ → ℕ → Answer Reachable
+reach n table limit = ofTable n table (unless (isLimit limit) 8 (accepted (reachable n table limit)))
 
 -- An array has a place for each cut that a table can have.
-unfoldable pub cutArray : Answer Found → List ℕ
+unfoldable pub cutArray : Answer Reachable → List ℕ
 cutArray answer = padded (suc mostVariables) 0 (entries (λ f. f .cuts) answer)
 
 -- The number of cuts, and the least limit.
-pub record Totals : Type 0 where
+pub record ReachTotals : Type 0 where
   pub count : ℕ
   pub limit : ℕ
 
-unfoldable pub totals : Found → Totals
-totals f = record { count = length (f .cuts); limit = f .limit }
+unfoldable pub reachTotals : Reachable → ReachTotals
+reachTotals f = record { count = length (f .cuts); limit = f .limit }
 
-unfoldable pub reachAnswer : ℕ → List ℤ → ℕ → Answer Totals
-reachAnswer n table limit = mapAnswer totals (reach n table limit)
+unfoldable pub reachAnswer : ℕ → List ℤ → ℕ → Answer ReachTotals
+reachAnswer n table limit = mapAnswer reachTotals (reach n table limit)
 
 -- The answer that a value of the enum stands for.
-unfoldable pub judgement : Verdict → Answer Totals
-judgement (Cuts count limit) = accepted (record { count = count; limit = limit })
-judgement (Refused number) = refused number
+unfoldable pub reachJudgement : ReachVerdict → Answer ReachTotals
+reachJudgement (Cuts count limit) = accepted (record { count = count; limit = limit })
+reachJudgement (Refused number) = refused number
 
 -- Reach's promise: its verdict, and what the array beside it holds, 0 past the last cut and all 0 in a refusal.
 pub record Reaches (n : ℕ) (table : List ℤ) (limit : ℕ) (answer : Reached) : Type 0 where
-  pub judged : judgement (answer .verdict) ≡ reachAnswer n table limit
+  pub judged : reachJudgement (answer .verdict) ≡ reachAnswer n table limit
   pub listed : answer .cuts ≡ cutArray (reach n table limit)

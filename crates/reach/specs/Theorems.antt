@@ -16,7 +16,7 @@ use Rattle.diagram.specs.Accepted.{Accepted}
 use Rattle.cascade.specs.Groupings.{addressWidth, fits, isGrouping}
 use Rattle.cascade.specs.Plan.{plan, entries}
 use Rattle.cascade.specs.Laws.Cells.{variables-some}
-use Rattle.reach.specs.Reach.{isReached, Found, found, reach, cutArray, totals, reachAnswer}
+use Rattle.reach.specs.Reach.{isReached, Reachable, reachable, reach, cutArray, reachTotals, reachAnswer}
 use Rattle.reach.specs.Inner.Narrowest.{furthest}
 use Rattle.reach.specs.Laws.Answers.{unnumbered, unsized, unvalued, unlimited, reach-finds, refusal-tells, answer-tells, as-by-plan, as-plan-refuses}
 use Rattle.reach.specs.Laws.Beside.{limit-within, unreached-fits-not, planned-reached, plan-tells, plan-some, nine-where-unreached, plan-nine}
@@ -31,10 +31,10 @@ module _ (n : ℕ) (table : List ℤ) (limit : ℕ) where
   -- ---- which calls are answered
 
   -- Exactly those with an accepted table and an admitted limit.
-  pub reach-accepts : ((f : Found) × (reach n table limit ≡ accepted f)) ↔ (Accepted n table × (isLimit limit ≡ true))
+  pub reach-accepts : ((f : Reachable) × (reach n table limit ≡ accepted f)) ↔ (Accepted n table × (isLimit limit ≡ true))
   reach-accepts = (
     (λ a. let t = answer-tells n table limit (a .0) (a .1) in (t .0, t .1 .0)),
-    (λ a. (found n table limit, reach-finds n table limit (a .0) (a .1))),
+    (λ a. (reachable n table limit, reach-finds n table limit (a .0) (a .1))),
   )
 
   -- The others are refused as by Plan, with the same number, and 9 is never given.
@@ -70,34 +70,34 @@ module _ (n : ℕ) (table : List ℤ) (limit : ℕ) where
   )
 
   -- It answers where Plan answers a grouping and where Plan answers 9, and gives the same two things in both.
-  pub answers-beside-plan : (((sizes : List ℕ) × (plan n table limit ≡ accepted sizes)) ⊎ (plan n table limit ≡ refused 9)) ↔ (reach n table limit ≡ accepted (found n table limit))
+  pub answers-beside-plan : (((sizes : List ℕ) × (plan n table limit ≡ accepted sizes)) ⊎ (plan n table limit ≡ refused 9)) ↔ (reach n table limit ≡ accepted (reachable n table limit))
   answers-beside-plan = (
     (λ p. let a = plan-tells n table limit p in reach-finds n table limit (a .0) (a .1)),
-    (λ e. let a = answer-tells n table limit (found n table limit) e in plan-some n table limit (a .0) (a .1 .0)),
+    (λ e. let a = answer-tells n table limit (reachable n table limit) e in plan-some n table limit (a .0) (a .1 .0)),
   )
 
   -- ---- what is answered
 
-  module _ (f : Found) (e : reach n table limit ≡ accepted f) where
+  module _ (f : Reachable) (e : reach n table limit ≡ accepted f) where
     admitted : Accepted n table
     admitted = answer-tells n table limit f e .0
 
     limited : isLimit limit ≡ true
     limited = answer-tells n table limit f e .1 .0
 
-    is-found : f ≡ found n table limit
+    is-found : f ≡ reachable n table limit
     is-found = answer-tells n table limit f e .1 .1
 
     -- ---- the cuts
 
     -- The list holds every cut that some list of fitting cells from cut 0 arrives at, and no others; the empty list arrives at cut 0.
     pub lists-exactly : (h : ℕ) → List·Memᴰ h (f .cuts) ↔ ((h ≤ n) × ((sizes : List ℕ) × (isGrouping h sizes ≡ true) × (fits n table limit sizes ≡ true)))
-    unfolding found
+    unfolding reachable
     lists-exactly h = rw is-found (listed-arriving n table limit h)
 
     -- It runs from cut 0 on without a gap, to the bottom cut at most.
     run : f .cuts ≡ numbersFrom 0 (suc (furthest (oneWide n table) limit n))
-    unfolding found
+    unfolding reachable
     run = ap (λ g. g .cuts) is-found ∙ cuts-run n table (admitted .size) limit
 
     pub no-gap : f .cuts ≡ numbersFrom 0 (length (f .cuts))
@@ -123,22 +123,22 @@ module _ (n : ℕ) (table : List ℤ) (limit : ℕ) where
 
     -- ---- the least limit
 
-    is-least : f .limit ≡ found n table limit .limit
+    is-least : f .limit ≡ reachable n table limit .limit
     is-least = ap (λ g. g .limit) is-found
 
     -- Some grouping fits it.
     pub least-fits : (sizes : List ℕ) × (isGrouping n sizes ≡ true) × (fits n table (f .limit) sizes ≡ true)
-    unfolding found
+    unfolding reachable
     least-fits = rw is-least (reached-arriving n table _ n .0 (least-reaches n table (admitted .size) _ (omega arith)))
 
     -- None fits a smaller one.
     pub smaller-fits-not : (smaller : ℕ) → smaller < f .limit → (sizes : List ℕ) → isGrouping n sizes ≡ true → fits n table smaller sizes ≡ false
-    unfolding found
+    unfolding reachable
     smaller-fits-not smaller l sizes grouping = unreached-fits-not n table smaller (below-reaches-not n table smaller (rw is-least at l)) sizes grouping
 
     -- It is from 1 to n, an address limit that can be given.
     pub least-to-n : (1 ≤ f .limit) × (f .limit ≤ n)
-    unfolding found
+    unfolding reachable
     least-to-n = rw is-least (least-within n table (admitted .size) (variables-some n table admitted))
 
     pub least-admitted : isLimit (f .limit) ≡ true
@@ -146,7 +146,7 @@ module _ (n : ℕ) (table : List ℤ) (limit : ℕ) where
 
     -- Plan answers 9 exactly for the limits below it, with the given limit and with every other.
     pub nine-exactly : (other : ℕ) → isLimit other ≡ true → (plan n table other ≡ refused 9) ↔ (other < f .limit)
-    unfolding found
+    unfolding reachable
     nine-exactly other l = rw is-least (plan-nine n table other admitted l)
 
     -- So with it Plan answers a grouping.
@@ -158,8 +158,8 @@ module _ (n : ℕ) (table : List ℤ) (limit : ℕ) where
         grouping (inr r) = absurd (let below = nine-exactly (f .limit) least-admitted .0 r in omega arith)
 
     -- Every other admitted limit has the same least one beside it.
-    pub one-least : (other : ℕ) (g : Found) → reach n table other ≡ accepted g → g .limit ≡ f .limit
-    unfolding found
+    pub one-least : (other : ℕ) (g : Reachable) → reach n table other ≡ accepted g → g .limit ≡ f .limit
+    unfolding reachable
     one-least other g h = ap (λ x. x .limit) (answer-tells n table other g h .1 .1) ∙ sym is-least
 
     -- ---- what stopped it
@@ -192,8 +192,8 @@ module _ (n : ℕ) (table : List ℤ) (limit : ℕ) where
 
     -- The number of cuts and the least limit; the cuts stand in front of the array, and 0 behind them.
     pub reach-verdict : reachAnswer n table limit ≡ accepted (record { count = length (f .cuts); limit = f .limit })
-    unfolding reachAnswer totals
-    reach-verdict = ap (mapAnswer totals) e
+    unfolding reachAnswer reachTotals
+    reach-verdict = ap (mapAnswer reachTotals) e
 
     pub reach-array : cutArray (reach n table limit) ≡ f .cuts ++ replicate (13 - length (f .cuts)) 0
     unfolding cutArray entries padded mostVariables

@@ -4,8 +4,8 @@ ghost use Prim.Native.Nat.{suc, _≤_};
 ghost use Rattle.numbers.specs.Lists.{numbersFrom, padded};
 ghost use Rattle.reach.specs.Inner.NarrowCells.{CountsReady};
 ghost use Rattle.reach.specs.Inner.Counts.{reachedIn};
+use crate::ReachVerdict;
 use crate::Reached;
-use crate::Verdict;
 
 // The cuts from 0 to the last one, and 0 behind them.
 fn list_cuts(last: usize) -> [usize; blocks::ALL_CUTS]
@@ -29,7 +29,7 @@ pub(crate) fn reach_counts(n: usize, limit: usize, counts: &[usize]) -> Reached
     let last = crate::narrow_cells::furthest_cut(n, limit, counts);
     let least = crate::narrow_cells::least_limit(n, counts);
     Reached {
-        verdict: Verdict::Cuts {
+        verdict: ReachVerdict::Cuts {
             count: last + 1,
             least,
         },

@@ -4,20 +4,20 @@ mod counts;
 mod narrow_cells;
 
 ghost use mathlib.Core.Path.{_≡_};
-ghost use Rattle.diagram.specs.Inner.Checks.{checked};
+ghost use Rattle.numbers.specs.Inner.Checks.{checked};
 ghost use Rattle.reach.specs.Reach.{Reaches};
 ghost use Rattle.reach.specs.Inner.Checks.{callChecks, refusedReach};
-use diagram::Checked;
+use numbers::Checked;
 
 // Reach's verdict: the number of cuts, and the least address limit that fits.
-pub enum Verdict {
+pub enum ReachVerdict {
     Cuts { count: usize, least: usize },
     Refused(u8),
 }
 
 // Reach's answer: the verdict beside the cuts, 0 past the last one and all 0 in a refusal.
 pub struct Reached {
-    pub verdict: Verdict,
+    pub verdict: ReachVerdict,
     pub cuts: [usize; blocks::ALL_CUTS],
 }
 
@@ -26,7 +26,7 @@ fn refused_reach(number: u8) -> Reached
     ensures { λ r. ⌜ r ≡ refusedReach number ⌝ }
 {
     Reached {
-        verdict: Verdict::Refused(number),
+        verdict: ReachVerdict::Refused(number),
         cuts: [0; blocks::ALL_CUTS],
     }
 }

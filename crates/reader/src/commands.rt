@@ -4,6 +4,7 @@ ghost use Prim.Native.Nat.{_+_, _≤_, _<_};
 ghost use lib.ListN.{length};
 ghost use Rattle.image.specs.Inner.Kinds.{dueOf, widthOf};
 ghost use Rattle.image.specs.Reader.{cell, due, dueByte, dueSize, commandAt};
+ghost use Rattle.image.specs.Commands.{cellSize};
 use image::Command;
 use image::Kind;
 use image::Place;
@@ -38,15 +39,15 @@ pub(crate) fn command_size(kind: Kind) -> usize
     ensures { λ r. ⌜ r ≡ dueSize (dueOf kind) ⌝ }
 {
     match kind {
-        Kind::Table => 6,
-        Kind::Cell => 7,
-        Kind::Word => 7,
-        Kind::End => 5,
+        Kind::Table => image::TABLE_SIZE,
+        Kind::Cell => image::CELL_SIZE,
+        Kind::Word => image::WORD_SIZE,
+        Kind::End => image::END_SIZE,
     }
 }
 
 fn cell_at(image: &[u8], at: usize) -> Command
-    requires { ⌜ at + 7 ≤ length (now image) ⌝ }
+    requires { ⌜ at + cellSize ≤ length (now image) ⌝ }
     ensures { λ r. ⌜ (r ≡ commandAt cell (now (image .entry)) at) × (widthOf r < 256) ⌝ }
 {
     let group = operands::read_one(image, at + 1);

@@ -9,12 +9,12 @@ ghost use Prim.Native.Nat.{_<_};
 ghost use Rattle.numbers.specs.Answers.{mapAnswer};
 ghost use Rattle.image.specs.Inner.Bounds.{WithinBounds, IsDue};
 ghost use Rattle.image.specs.Inner.GivenN.{hasOtherN};
-ghost use Rattle.image.specs.Inner.Kinds.{checked};
+ghost use Rattle.numbers.specs.Inner.Checks.{checked};
 ghost use Rattle.image.specs.Reader.{judged, step, stepped, reading, readingFor};
-use image::Checked;
 use image::Command;
 use image::Place;
 use image::Step;
+use numbers::Checked;
 
 // What is judged of a command whose operands are all there.
 fn judge(image: &[u8], place: Place, command: Command) -> Step
@@ -64,7 +64,7 @@ pub fn check(image: &[u8]) -> Checked
             }
             Step::Read(command, next) => {
                 if crate::rules::is_end(command) {
-                    return Checked::Whole;
+                    return Checked::Passed;
                 }
                 place = next;
             }
@@ -76,7 +76,7 @@ pub fn check(image: &[u8]) -> Checked
 fn has_other_n(image: &[u8], n: usize) -> bool
     ensures { λ r. ⌜ r ≡ hasOtherN n (now (image .entry)) ⌝ }
 {
-    if image.len() < 6 {
+    if image.len() < image::TABLE_SIZE {
         return false;
     }
     if operands::byte(image, 0) != 0x56 {

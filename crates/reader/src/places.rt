@@ -29,7 +29,7 @@ fn after_table(place: Place, n: usize, offset: i32) -> Place
     ensures { λ r. ⌜ r ≡ placeAfter place (Command.Table n offset) ⌝ }
 {
     Place {
-        at: place.at + 6,
+        at: place.at + image::TABLE_SIZE,
         n,
         left: n,
         classes: 1,
@@ -47,7 +47,7 @@ fn after_cell(place: Place, group: usize, incoming: usize, outgoing: usize, widt
     ensures { λ r. ⌜ r ≡ placeAfter place (Command.Cell group incoming outgoing width) ⌝ }
 {
     Place {
-        at: place.at + 7,
+        at: place.at + image::CELL_SIZE,
         n: place.n,
         left: place.left - group,
         classes: outgoing,
@@ -65,7 +65,7 @@ fn after_word(place: Place, class: usize, weight: i32) -> Place
     ensures { λ r. ⌜ r ≡ placeAfter place (Command.Word class weight) ⌝ }
 {
     Place {
-        at: place.at + 7,
+        at: place.at + image::WORD_SIZE,
         n: place.n,
         left: place.left,
         classes: place.classes,
@@ -83,7 +83,7 @@ fn after_end(place: Place, bits: usize) -> Place
     ensures { λ r. ⌜ r ≡ placeAfter place (Command.End bits) ⌝ }
 {
     Place {
-        at: place.at + 5,
+        at: place.at + image::END_SIZE,
         n: place.n,
         left: place.left,
         classes: place.classes,

@@ -58,7 +58,7 @@ pub(crate) fn ends_well(image: &[u8], place: Place, command: Command) -> bool
     ensures { λ r. ⌜ r ≡ endsWell (now (image .entry)) place command ⌝ }
 {
     if is_end(command) {
-        return image.len() == place.at + 5;
+        return image.len() == place.at + image::END_SIZE;
     }
     true
 }

@@ -8,7 +8,7 @@ ghost use Prim.Native.Nat.{_<_};
 ghost use Rattle.diagram.specs.Inner.Edges.{Passing};
 ghost use Rattle.numbers.specs.Answers.{accepted};
 ghost use Rattle.report.specs.Report.{valuesFrom, figuresOf, isPart, report, reported};
-use diagram::Checked;
+use numbers::Checked;
 
 // The report's answer.
 pub enum Reported {

@@ -4,15 +4,16 @@ ghost use Prim.Native.Nat.{_+_, _≤_, _<_};
 ghost use lib.ListN.{length};
 ghost use Rattle.image.specs.Inner.Evaluation.{Accepted, cardRead, resultOf, firstProgress, wordPlace, cellRead, CellAhead};
 ghost use Rattle.image.specs.Run.{groupValue, runCard};
+ghost use Rattle.image.specs.Commands.{tableSize};
 use image::Evaluated;
 use image::Progress;
 
 fn first_progress(image: &[u8]) -> Progress
-    requires { ⌜ 6 ≤ length (now image) ⌝ }
+    requires { ⌜ tableSize ≤ length (now image) ⌝ }
     ensures { λ r. ⌜ r ≡ firstProgress (now (image .entry)) ⌝ }
 {
     Progress {
-        at: 6,
+        at: image::TABLE_SIZE,
         left: operands::read_one(image, 1),
         class: 0,
         value: operands::read_signed(image, 2),
@@ -35,7 +36,7 @@ fn word_place(image: &[u8], x: usize, progress: Progress) -> usize
     let at = progress.at;
     let group = operands::read_one(image, at + 1);
     let v = group_value(progress.left, group, x);
-    at + 7 + 7 * (progress.class * (1 << group) + v)
+    at + image::CELL_SIZE + image::WORD_SIZE * (progress.class * (1 << group) + v)
 }
 
 // One word of the cell ahead is read, at its place.
@@ -50,7 +51,7 @@ fn read_cell(image: &[u8], x: usize, progress: Progress) -> Progress
     let class = operands::read_two(image, word + 1);
     let weight = operands::read_signed(image, word + 3);
     Progress {
-        at: at + 7 + 7 * (incoming * (1 << group)),
+        at: at + image::CELL_SIZE + image::WORD_SIZE * (incoming * (1 << group)),
         left: progress.left - group,
         class,
         value: progress.value + weight,

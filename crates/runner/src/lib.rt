@@ -6,9 +6,9 @@ ghost use Prim.Native.Nat.{_<_};
 ghost use lib.ListN.{length};
 ghost use Rattle.image.specs.Inner.Evaluation.{Accepted, cardRead, valuesTo};
 ghost use Rattle.image.specs.Run.{Expands, run, ran};
-use image::Checked;
 use image::Expanded;
 use image::Ran;
+use numbers::Checked;
 
 // Run of an image that is known to be accepted: it is not checked again.
 pub fn run_accepted(image: &[u8], x: usize) -> Ran
@@ -31,7 +31,7 @@ pub fn run(image: &[u8], x: usize) -> Ran
 {
     match reader::check(image) {
         Checked::Refused(number) => Ran::Refused(number),
-        Checked::Whole => run_accepted(image, x),
+        Checked::Passed => run_accepted(image, x),
     }
 }
 
@@ -65,6 +65,6 @@ pub fn expand(image: &[u8], table: &mut [i32]) -> Expanded
 {
     match reader::check(image) {
         Checked::Refused(number) => Expanded::Refused(number),
-        Checked::Whole => expand_accepted(image, table),
+        Checked::Passed => expand_accepted(image, table),
     }
 }

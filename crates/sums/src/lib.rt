@@ -5,7 +5,7 @@ mod weight_lists;
 
 ghost use lib.ListN.{length};
 ghost use Rattle.sums.specs.Sums.{Weighted, plainSum, reducedSum, Fills};
-use diagram::Checked;
+use numbers::Checked;
 
 // What Sum and Remainder answer beside their table buffer.
 pub enum Summed {

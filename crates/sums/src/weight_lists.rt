@@ -2,11 +2,11 @@
 ghost use mathlib.Core.Path.{_≡_};
 ghost use Rattle.numbers.specs.Lists.{every};
 ghost use Rattle.numbers.specs.Ranges.{isValue};
-ghost use Rattle.diagram.specs.Inner.Checks.{checked};
+ghost use Rattle.numbers.specs.Inner.Checks.{checked};
 ghost use Rattle.sums.specs.Sums.{sumTable, isRemainderBits};
 ghost use Rattle.sums.specs.Inner.Summable.{Summable};
 ghost use Rattle.sums.specs.Inner.Checks.{weightChecks};
-use diagram::Checked;
+use numbers::Checked;
 
 // The checks on a weight list that both operations share, in their order.
 pub(crate) fn check_weights(n: usize, weights: &[i32]) -> Checked

@@ -13,11 +13,6 @@ use stdin::Input;
 // One byte more than the longest text that is read.
 const KEPT: usize = 1048577;
 
-// The bytes of the longest input that a text gives, and of the longest text of a listing.
-const INPUT_ROOM: usize = 16386;
-
-const TEXT_ROOM: usize = 113248;
-
 // What a text gives: the length of its listing, or the line on which something else was expected.
 enum Answer {
     Listing(usize),
@@ -32,10 +27,10 @@ fn read_text(buffer: &mut [u8; KEPT]) -> Input
 }
 
 // The listing of the table that a text gives, in front of the lent bytes.
-fn list_text(text: &[u8], out: &mut [u8; TEXT_ROOM]) -> Answer
+fn list_text(text: &[u8], out: &mut [u8; listing::TEXT_ROOM]) -> Answer
     ensures { λ r. ⌜ ListsText (now (text .entry)) (now (out .entry)) r (now (out .exit)) ⌝ }
 {
-    let mut input = [0u8; INPUT_ROOM];
+    let mut input = [0u8; decimal::INPUT_ROOM];
     match decimal::parse(text, &mut input) {
         Parsed::Input { length } => Answer::Listing(listing::list_input(&input[..length], out)),
         Parsed::Wrong { line, expected } => Answer::Wrong { line, expected },
@@ -51,7 +46,7 @@ fn print_listing(out: &[u8]) {
 
 // Writes what a text gives.
 fn print_answer(text: &[u8]) {
-    let mut out = [0u8; TEXT_ROOM];
+    let mut out = [0u8; listing::TEXT_ROOM];
     match list_text(text, &mut out) {
         Answer::Listing(length) => print_listing(&out[..length]),
         Answer::Wrong { line, expected } => crate::messages::print_wrong(line, expected),

@@ -7,8 +7,8 @@ pub mod paths;
 ghost use mathlib.Core.Path.{_≡_};
 ghost use Rattle.diagram.specs.Walk.{walkValue, walk, walked};
 ghost use Rattle.diagram.specs.Inner.Edges.{Passing};
-use diagram::Checked;
 use diagram::Walked;
+use numbers::Checked;
 
 // The offset plus the weights of the 1-edges on the path from the root.
 fn walk_value(n: usize, offset: i32, records: &[i32], x: usize) -> i32

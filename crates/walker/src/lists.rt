@@ -4,9 +4,10 @@ ghost use mathlib.Core.Bool.{true};
 ghost use Rattle.numbers.specs.Lists.{numbersFrom, every};
 ghost use Rattle.numbers.specs.Ranges.{isVariables};
 ghost use Rattle.diagram.specs.Walk.{recordFits, recordCount, listFits};
-ghost use Rattle.diagram.specs.Inner.Checks.{listChecks, checked};
+ghost use Rattle.diagram.specs.Inner.Checks.{listChecks};
+ghost use Rattle.numbers.specs.Inner.Checks.{checked};
 ghost use Rattle.diagram.specs.Inner.Edges.{Recorded, EarlierPass};
-use diagram::Checked;
+use numbers::Checked;
 
 // Whether record k passes Walk's check, where all records before it do: they tell the ranges of its children.
 fn record_fits(n: usize, records: &[i32], k: usize) -> bool

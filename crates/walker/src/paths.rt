@@ -3,7 +3,7 @@ ghost use mathlib.Core.Path.{_≡_};
 ghost use Prim.Native.Nat.{_<_};
 ghost use Rattle.diagram.specs.Inner.Edges.{Walkable, edgeAt, descend, rootOf, PathReady};
 use diagram::Edge;
-use diagram::Reached;
+use diagram::Waypoint;
 
 // The edge that X takes from node k at variable i, or none where k is node 0 or a record of another variable.
 fn edge_at(records: &[i32], i: usize, k: usize, x: usize) -> Edge
@@ -29,17 +29,17 @@ fn edge_at(records: &[i32], i: usize, k: usize, x: usize) -> Edge
 }
 
 // Where every path starts: the offset, and the root.
-pub fn root_of(offset: i32, records: &[i32]) -> Reached
+pub fn root_of(offset: i32, records: &[i32]) -> Waypoint
     ensures { λ r. ⌜ r ≡ rootOf offset (now (records .entry)) ⌝ }
 {
-    Reached {
+    Waypoint {
         value: offset,
         node: records.len() / diagram::records::RECORD_SIZE,
     }
 }
 
 // What the path of X reaches from a value and a node, once so many variables from low on are read, the highest first.
-pub fn walk_on(records: &[i32], low: usize, count: usize, reached: Reached, x: usize) -> Reached
+pub fn walk_on(records: &[i32], low: usize, count: usize, reached: Waypoint, x: usize) -> Waypoint
     requires { ⌜ PathReady (now records) low count reached ⌝ }
     ensures { λ r. ⌜ r ≡ descend (now (records .entry)) low count x reached ⌝ }
 {
@@ -52,5 +52,5 @@ pub fn walk_on(records: &[i32], low: usize, count: usize, reached: Reached, x: u
         value += edge.weight;
         node = edge.node;
     }
-    Reached { value, node }
+    Waypoint { value, node }
 }

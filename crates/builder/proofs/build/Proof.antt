@@ -1,7 +1,7 @@
 -- `builder::build` meets its contract. Assumes nothing.
 use mathlib.Core.Path.{sym, _∙_, ap}
 use borrow.Author.Needs.{needs}
-use Rattle.diagram.specs.Inner.Checks.{checked}
+use Rattle.numbers.specs.Inner.Checks.{checked}
 use Rattle.diagram.specs.Laws.Builds.{passed-table, build-unfit}
 use Rattle.builder.proofs.build.Statement.{statement}
 use Rattle.builder.proofs.build.Tie as tie

@@ -14,7 +14,7 @@ use Rattle.numbers.specs.Laws.Bools.{yes-or-no}
 use Rattle.diagram.specs.Accepted.{Accepted}
 use Rattle.diagram.specs.Inner.Checks.{tableChecks}
 use Rattle.diagram.specs.Laws.Builds.{after-checks, passed-table}
-use Rattle.cascade.specs.Compile.{imageFor, compile, Report, report, compileAnswer}
+use Rattle.cascade.specs.Compile.{imageFor, compile, ImageSummary, imageSummary, compileAnswer}
 use Rattle.cascade.specs.Groupings.{chosen}
 use Rattle.cascade.specs.Plan.{plan}
 
@@ -56,10 +56,10 @@ compile-admits n table limit room sizes e = planned (plan n table limit) refl
     planned (refused k) f = absurd (never-both sizes k (sym (ap (λ a. andThen a (λ s. unless (leb (length (imageFor n table s)) room) 10 (accepted s))) f) ∙ e))
 
 -- Its report is that of the sizes.
-pub report-admits : (n : ℕ) (table : List ℤ) (limit room : ℕ) (r : Report) → compileAnswer n table limit room ≡ accepted r → (sizes : List ℕ) × ((compile n table limit room ≡ accepted sizes) × (r ≡ report n table sizes))
+pub report-admits : (n : ℕ) (table : List ℤ) (limit room : ℕ) (r : ImageSummary) → compileAnswer n table limit room ≡ accepted r → (sizes : List ℕ) × ((compile n table limit room ≡ accepted sizes) × (r ≡ imageSummary n table sizes))
 unfolding compileAnswer
 report-admits n table limit room r e = reported (compile n table limit room) refl
   where
-    reported : (answer : Answer (List ℕ)) → compile n table limit room ≡ answer → (sizes : List ℕ) × ((compile n table limit room ≡ accepted sizes) × (r ≡ report n table sizes))
-    reported (accepted sizes) f = (sizes, (f, (let g = sym (ap (mapAnswer (report n table)) f) ∙ e in cc)))
-    reported (refused k) f = absurd (never-both r k (sym (ap (mapAnswer (report n table)) f) ∙ e))
+    reported : (answer : Answer (List ℕ)) → compile n table limit room ≡ answer → (sizes : List ℕ) × ((compile n table limit room ≡ accepted sizes) × (r ≡ imageSummary n table sizes))
+    reported (accepted sizes) f = (sizes, (f, (let g = sym (ap (mapAnswer (imageSummary n table)) f) ∙ e in cc)))
+    reported (refused k) f = absurd (never-both r k (sym (ap (mapAnswer (imageSummary n table)) f) ∙ e))

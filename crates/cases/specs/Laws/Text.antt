@@ -10,12 +10,12 @@ use Rattle.numbers.specs.Inner.Rows.{overwritten}
 use Rattle.numbers.specs.Laws.Bools.{yes-or-no}
 use Rattle.decimal.specs.Words.{isNewline, Word, words}
 use Rattle.decimal.specs.Table.{isValueWord}
-use Rattle.decimal.specs.declared.Place.{Place}
-use Rattle.decimal.specs.Inner.Places.{wordsAt}
+use Rattle.decimal.specs.declared.Position.{Position}
+use Rattle.decimal.specs.Inner.Positions.{wordsAt}
 use Rattle.decimal.specs.Inner.Values.{valuesFound}
 use Rattle.decimal.specs.Laws.Buffers.{front-taken}
 use Rattle.decimal.specs.Laws.Items.{SeenOther, SeenEnd}
-use Rattle.decimal.specs.Laws.Places.{byte-there, start-words}
+use Rattle.decimal.specs.Laws.Positions.{byte-there, start-words}
 use Rattle.decimal.specs.Laws.Values.{ValuesSoFar}
 use Rattle.cases.specs.Text.{lineLength, lineNumbers, ReadsRow}
 
@@ -79,7 +79,7 @@ unfolding valuesFound
 none-of-none zero = refl
 none-of-none (suc count) = refl
 
-module _ {line : List ℕ} {row : List ℤ} {place : Place} {count : ℕ} {row′ : List ℤ} (v : ValuesSoFar line (record { at = 0; line = 1 }) (length row) row place count row′) where
+module _ {line : List ℕ} {row : List ℤ} {place : Position} {count : ℕ} {row′ : List ℤ} (v : ValuesSoFar line (record { at = 0; line = 1 }) (length row) row place count row′) where
   -- No number follows those found so far.
   all-read : valuesFound (length row - count) (wordsAt line place) ≡ [] → ReadsRow line row count row′
   unfolding lineNumbers

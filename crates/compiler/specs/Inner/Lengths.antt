@@ -6,14 +6,15 @@ use lib.ListN.{length, getD}
 use Rattle.numbers.specs.Lists.{sumOf}
 use Rattle.cascade.specs.Plan.{noCell}
 use Rattle.cascade.specs.declared.Cell.{Cell}
+use Rattle.image.specs.Commands.{tableSize, cellSize, wordSize, endSize}
 
 -- The bytes of a planned cell: its command and a word for each incoming class and group value.
 unfoldable pub plannedBytes : Cell → ℕ
-plannedBytes cell = 7 + 7 * (cell .incoming * 2 ^ cell .group)
+plannedBytes cell = cellSize + wordSize * (cell .incoming * 2 ^ cell .group)
 
 -- The bytes of the image of planned cells: the table command, the cells, the end.
 unfoldable pub plannedLength : List Cell → ℕ
-plannedLength cells = 6 + sumOf (map plannedBytes cells) + 5
+plannedLength cells = tableSize + sumOf (map plannedBytes cells) + endSize
 
 -- A cell of few variables and few words.
 pub record SmallCell (cell : Cell) : Type 0 where

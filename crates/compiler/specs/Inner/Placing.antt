@@ -10,7 +10,7 @@ use Rattle.numbers.specs.Lists.{padded}
 use Rattle.numbers.specs.Ranges.{mostVariables}
 use Rattle.blocks.specs.Inner.Layout.{cutPlace, allNumbers, allFirsts, allCounts}
 use Rattle.diagram.specs.Accepted.{Accepted}
-use Rattle.cascade.specs.Compile.{imageFor, report, outcome}
+use Rattle.cascade.specs.Compile.{imageFor, imageSummary, outcome}
 use Rattle.cascade.specs.Plan.{noCell, cellArray}
 use Rattle.cascade.specs.Inner.Planned.{groups, PlannedAs}
 use Rattle.cascade.specs.declared.Cell.{Cell}
@@ -26,7 +26,7 @@ imagePlaced n table sizes room = unless (leb (length (imageFor n table sizes)) r
 
 -- What is then answered, and left in the buffer.
 pub record Places (n : ℕ) (table : List ℤ) (sizes buffer : List ℕ) (answer : Compiled) (buffer′ : List ℕ) : Type 0 where
-  pub answered : outcome (answer .outcome) ≡ mapAnswer (report n table) (imagePlaced n table sizes (length buffer))
+  pub answered : outcome (answer .outcome) ≡ mapAnswer (imageSummary n table) (imagePlaced n table sizes (length buffer))
   pub priced : answer .cells ≡ cellArray n table (imagePlaced n table sizes (length buffer))
   pub left : buffer′ ≡ bufferAfter (imagePlaced n table sizes (length buffer)) (imageFor n table) buffer
 

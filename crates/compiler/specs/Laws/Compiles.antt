@@ -9,7 +9,7 @@ use Rattle.numbers.specs.Answers.{accepted, refused}
 use Rattle.numbers.specs.Inner.Rows.{overwritten}
 use Rattle.numbers.specs.Laws.Rows.{overwritten-front}
 use Rattle.diagram.specs.Records.{nodeCount}
-use Rattle.cascade.specs.Compile.{imageFor, compile, report, compileAnswer, compileCells, compileBuffer, outcome, Compiles}
+use Rattle.cascade.specs.Compile.{imageFor, compile, imageSummary, compileAnswer, compileCells, compileBuffer, outcome, Compiles}
 use Rattle.cascade.specs.Groupings.{cost}
 use Rattle.cascade.specs.Plan.{plan, entries, cellArray, totals}
 use Rattle.cascade.specs.declared.Cell.{Cell}
@@ -40,7 +40,7 @@ module _ (n : ℕ) (table : List ℤ) (sizes buffer : List ℕ) where
 
   -- Else the image stands in front.
   pub places-image : (cells : List Cell) (count bits imageLength nodes : ℕ) (buffer′ : List ℕ) → PlannedAs n table sizes cells count bits → length (imageFor n table sizes) ≤ length buffer → imageLength ≡ length (imageFor n table sizes) → nodes ≡ nodeCount n table → buffer′ ≡ overwritten buffer 0 (imageFor n table sizes) → Places n table sizes buffer (record { outcome = Image imageLength nodes count bits; cells = cells }) buffer′
-  unfolding imagePlaced cellArray entries outcome report totals cost
+  unfolding imagePlaced cellArray entries outcome imageSummary totals cost
   places-image cells count bits imageLength nodes buffer′ p room isLength isNodes written =
       let e = le-leb (length (imageFor n table sizes)) (length buffer) room in
       record {

@@ -9,8 +9,8 @@ use Rattle.decimal.specs.Words.{lastLine}
 use Rattle.decimal.specs.Table.{textRead, bodyRead, inputRoom}
 use Rattle.decimal.specs.declared.Expected.the-variants.{Variables, Limit}
 use Rattle.decimal.specs.declared.Heading.{Heading}
-use Rattle.decimal.specs.Inner.Places.{wordsAt}
-use Rattle.decimal.specs.Laws.Places.{start-place}
+use Rattle.decimal.specs.Inner.Positions.{wordsAt}
+use Rattle.decimal.specs.Laws.Positions.{start-place}
 use Rattle.decimal.specs.Laws.Items.{HeadingFound, HeadingSeen, heading-seen}
 use Rattle.decimal.specs.Laws.Tables.{no-variables, variables-first, no-limit, limit-second, wrong-answers, reads-short, reads-enough}
 use borrow.Author.Needs.{needs}

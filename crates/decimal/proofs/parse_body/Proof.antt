@@ -10,10 +10,10 @@ use lib.IntN.{ℤ, pos}
 use Rattle.numbers.specs.Ranges.{mostVariables}
 use Rattle.decimal.specs.Words.{Word, lastLine}
 use Rattle.decimal.specs.Table.{Read, got, wrong, Table, hasMore, valuesRead, bodyRead, inputRoom}
-use Rattle.decimal.specs.declared.Checked.the-variants.{Good, Wrong as NotGood}
+use Rattle.decimal.specs.declared.Body.the-variants.{Good, Wrong as NotGood}
 use Rattle.decimal.specs.declared.Expected.the-variants.{LineEnd}
-use Rattle.decimal.specs.Inner.Places.{wordsAt}
-use Rattle.decimal.specs.Inner.Values.{checked, valuesFound}
+use Rattle.decimal.specs.Inner.Positions.{wordsAt}
+use Rattle.decimal.specs.Inner.Values.{bodyJudged, valuesFound}
 use Rattle.decimal.specs.Laws.Values.{good-values}
 use Rattle.decimal.specs.Laws.Buffers.{front-taken}
 use Rattle.decimal.specs.Laws.Tables.{body-more, body-wrong, body-good, wrong-answers, got-answers}
@@ -90,7 +90,7 @@ module _ (c : tie.After-enum-told) where
   abbrev read : tie.After-read-values
   read = c .before .before .before
 
-  good : checked (valuesRead (end (first read)) (count read) (words (first read))) ≡ Good
+  good : bodyJudged (valuesRead (end (first read)) (count read) (words (first read))) ≡ Good
   good = sym (read .read-values .ensures .answered) ∙ c .enum-told .given .1
 
   abbrev table : Table
@@ -139,7 +139,7 @@ module _ (c : tie.After-known-told) where
   abbrev failed : tie.After-read-values
   failed = c .before .before .before .before
 
-  bad : checked (valuesRead (end (first failed)) (count failed) (words (first failed))) ≡ NotGood (c .before .line .given .0 .0) (c .before .line .given .0 .1 .0)
+  bad : bodyJudged (valuesRead (end (first failed)) (count failed) (words (first failed))) ≡ NotGood (c .before .line .given .0 .0) (c .before .line .given .0 .1 .0)
   bad = sym (failed .read-values .ensures .answered) ∙ c .before .line .given .1
 
   body-fails : body (first failed) ≡ wrong (c .before .line .given .0 .0) (c .before .line .given .0 .1 .0)

@@ -9,14 +9,14 @@ use Rattle.numbers.specs.Inner.Rows.{overwritten}
 use Rattle.decimal.specs.Words.{Word, lastLine}
 use Rattle.decimal.specs.Numbers.{numberOf}
 use Rattle.decimal.specs.Table.{Read, got, wrong, Table, isValueWord, valuesRead, bodyRead, inputRoom, parsed, parsedBuffer}
-use Rattle.decimal.specs.declared.Place.{Place}
+use Rattle.decimal.specs.declared.Position.{Position}
 use Rattle.decimal.specs.declared.Parsed.{Parsed}
-use Rattle.decimal.specs.declared.Checked.{Checked}
-use Rattle.decimal.specs.declared.Checked.the-variants.{Good, Wrong}
-use Rattle.decimal.specs.Inner.Places.{wordsAt, PlaceIn}
+use Rattle.decimal.specs.declared.Body.{Body}
+use Rattle.decimal.specs.declared.Body.the-variants.{Good, Wrong}
+use Rattle.decimal.specs.Inner.Positions.{wordsAt, PositionIn}
 
 -- So many values from a place on, and then nothing more.
-abbrev pub valuesAt : List ℕ → Place → ℕ → Read (List ℤ)
+abbrev pub valuesAt : List ℕ → Position → ℕ → Read (List ℤ)
 valuesAt text place count = valuesRead (lastLine text) count (wordsAt text place)
 
 -- What follows n and the limit, from a place on the first line.
@@ -24,9 +24,9 @@ abbrev pub bodyAt : List ℕ → ℕ → ℕ → ℕ → Read Table
 bodyAt text at n limit = bodyRead (lastLine text) n limit (wordsAt text (record { at = at; line = 1 }))
 
 -- The answer for what values give.
-unfoldable pub checked : {A : Type 0} → Read A → Checked
-checked (got a) = Good
-checked (wrong line expected) = Wrong line expected
+unfoldable pub bodyJudged : {A : Type 0} → Read A → Body
+bodyJudged (got a) = Good
+bodyJudged (wrong line expected) = Wrong line expected
 
 -- The values in front, so many at most.
 unfoldable pub valuesFound : ℕ → List Word → List ℤ
@@ -35,8 +35,8 @@ valuesFound (suc count) [] = []
 valuesFound (suc count) (word ∷ more) = elim (isValueWord (word .bytes)) [ true ↦ numberOf (word .bytes) ∷ valuesFound count more | false ↦ [] ]
 
 -- Whether the values from a place on are all there, and the row with those found in front.
-pub record ReadsValues (text : List ℕ) (place : Place) (count : ℕ) (row : List ℤ) (answer : Checked) (row′ : List ℤ) : Type 0 where
-  pub answered : answer ≡ checked (valuesAt text place count)
+pub record ReadsValues (text : List ℕ) (place : Position) (count : ℕ) (row : List ℤ) (answer : Body) (row′ : List ℤ) : Type 0 where
+  pub answered : answer ≡ bodyJudged (valuesAt text place count)
   pub left : row′ ≡ overwritten row 0 (valuesFound count (wordsAt text place))
 
 -- The answer for what was read, and the buffer.
@@ -52,7 +52,7 @@ pub record InputReady (n limit : ℕ) (values : List ℤ) (buffer : List ℕ) : 
 
 -- n and the limit are read, up to a place on the first line, and the buffer holds every input.
 pub record BodyReady (text : List ℕ) (at n limit : ℕ) (buffer : List ℕ) : Type 0 where
-  pub placed : PlaceIn text (record { at = at; line = 1 })
+  pub placed : PositionIn text (record { at = at; line = 1 })
   pub few : n ≤ 12
   pub limit-byte : limit ≤ 255
   pub room : inputRoom ≤ length buffer

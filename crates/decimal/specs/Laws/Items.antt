@@ -14,20 +14,20 @@ use Rattle.numbers.specs.Laws.Bools.{yes-or-no, both, and-both}
 use Rattle.decimal.specs.Words.{Word, lastLine}
 use Rattle.decimal.specs.Numbers.{isNumber, numberOf, isNumberFrom}
 use Rattle.decimal.specs.Table.{isValueWord, isHeading}
-use Rattle.decimal.specs.declared.Place.{Place}
+use Rattle.decimal.specs.declared.Position.{Position}
 use Rattle.decimal.specs.declared.Item.{Item}
 use Rattle.decimal.specs.declared.Item.the-variants.{Valued, Other, Ended}
 use Rattle.decimal.specs.declared.Heading.{Heading}
 use Rattle.decimal.specs.declared.Heading.the-variants.{Found, Missing}
-use Rattle.decimal.specs.Inner.Places.{wordsAt, PlaceIn, skipped}
+use Rattle.decimal.specs.Inner.Positions.{wordsAt, PositionIn, skipped}
 use Rattle.decimal.specs.Inner.Numbers.{isWhole, wordNumber}
 use Rattle.decimal.specs.Inner.Items.{wordThere, wordBehind, wordItem, itemThere, itemAt, headingOf, headingAt}
-use Rattle.decimal.specs.Laws.Places.{Skipped, skipped-is, ended-words, ended-line, WordFirst, word-is}
+use Rattle.decimal.specs.Laws.Positions.{Skipped, skipped-is, ended-words, ended-line, WordFirst, word-is}
 use Rattle.decimal.specs.Laws.Numbers.{one-fails, value-word, other-word}
 
 -- ---- the item at a place
 
-module _ (text : List ℕ) (place : Place) where
+module _ (text : List ℕ) (place : Position) where
   pub there-ended : length text ≤ place .at → itemThere text place ≡ Ended (place .line)
   unfolding itemThere
   there-ended l = rw (le-leb (length text) (place .at) l, itemThere)
@@ -37,33 +37,33 @@ module _ (text : List ℕ) (place : Place) where
   there-word l = rw (lt-leb (length text) (place .at) l, itemThere)
 
 -- A number: the first word, in front of those from the place behind it.
-pub record SeenValue (text : List ℕ) (place : Place) (number : ℤ) (behind : Place) : Type 0 where
+pub record SeenValue (text : List ℕ) (place : Position) (number : ℤ) (behind : Position) : Type 0 where
   pub word : List ℕ
   pub first : wordsAt text place ≡ record { line = behind .line; bytes = word } ∷ wordsAt text behind
   pub value : isValueWord word ≡ true
   pub number-is : number ≡ numberOf word
-  pub placed : PlaceIn text behind
+  pub placed : PositionIn text behind
   pub further : place .at < behind .at
 
 -- Any other word.
-pub record SeenOther (text : List ℕ) (place : Place) (line : ℕ) : Type 0 where
+pub record SeenOther (text : List ℕ) (place : Position) (line : ℕ) : Type 0 where
   pub word : List ℕ
   pub more : List Word
   pub first : wordsAt text place ≡ record { line = line; bytes = word } ∷ more
   pub value : isValueWord word ≡ false
 
 -- No word.
-pub record SeenEnd (text : List ℕ) (place : Place) (line : ℕ) : Type 0 where
+pub record SeenEnd (text : List ℕ) (place : Position) (line : ℕ) : Type 0 where
   pub none : wordsAt text place ≡ []
   pub last : line ≡ lastLine text
 
 -- What an item says of the words from a place on.
-abbrev pub Seen : List ℕ → Place → Item → Type 0
+abbrev pub Seen : List ℕ → Position → Item → Type 0
 Seen text place (Valued number line at) = SeenValue text place number (record { at = at; line = line })
 Seen text place (Other line) = SeenOther text place line
 Seen text place (Ended line) = SeenEnd text place line
 
-pub item-seen : {text : List ℕ} {place : Place} → PlaceIn text place → Seen text place (itemAt text place)
+pub item-seen : {text : List ℕ} {place : Position} → PositionIn text place → Seen text place (itemAt text place)
 unfolding itemAt wordItem wordBehind
 item-seen {text} {place} p =
     yes-or-no (leb (length text) (first .at))
@@ -75,7 +75,7 @@ item-seen {text} {place} p =
     (λ v. rw (value-word (wordThere text first) v) (valued v (word-is (s .placed) l (s .stopped l))))
     (λ v. rw (other-word (wordThere text first) v) (other v (word-is (s .placed) l (s .stopped l))))))
   where
-    first : Place
+    first : Position
     first = skipped text place
 
     s : Skipped text place first
@@ -128,17 +128,17 @@ pub record HeadingFound (text : List ℕ) (at low high number next : ℕ) : Type
   pub heads : isHeading low high (record { line = 1; bytes = word }) ≡ true
   pub number-is : number ≡ mag (numberOf word)
   pub bounds : (low ≤ number) × (number ≤ high)
-  pub placed : PlaceIn text (record { at = next; line = 1 })
+  pub placed : PositionIn text (record { at = next; line = 1 })
 
 abbrev pub HeadingSeen : List ℕ → ℕ → ℕ → ℕ → Heading → Type 0
 HeadingSeen text at low high (Found number next) = HeadingFound text at low high number next
 HeadingSeen text at low high Missing = (word : Word) (more : List Word) → wordsAt text (record { at = at; line = 1 }) ≡ word ∷ more → isHeading low high word ≡ false
 
-pub heading-seen : (text : List ℕ) (at low high : ℕ) → high ≤ 2147483647 → PlaceIn text (record { at = at; line = 1 }) → HeadingSeen text at low high (headingAt text at (pos low) (pos high))
+pub heading-seen : (text : List ℕ) (at low high : ℕ) → high ≤ 2147483647 → PositionIn text (record { at = at; line = 1 }) → HeadingSeen text at low high (headingAt text at (pos low) (pos high))
 unfolding headingAt headingOf isHeading isNumberFrom isValueWord
 heading-seen text at low high few p = by-item (itemAt text place) (item-seen p)
   where
-    place : Place
+    place : Position
     place = record { at = at; line = 1 }
 
     -- Only the first word counts.

@@ -19,7 +19,7 @@ use Rattle.decimal.specs.Table.{isValueWord}
 use Rattle.decimal.specs.declared.Digits.the-variants.{Small, NotSmall}
 use Rattle.decimal.specs.declared.Number.the-variants.{Whole, NotWhole}
 use Rattle.decimal.specs.Inner.Numbers.{isWhole, largestSize, isSmall, smallNumber, signLength, signedSize, wholeNumber, signedNumber, wordNumber}
-use Rattle.decimal.specs.Laws.Places.{byte-there}
+use Rattle.decimal.specs.Laws.Positions.{byte-there}
 
 -- ---- digit by digit
 

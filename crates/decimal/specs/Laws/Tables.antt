@@ -17,11 +17,11 @@ use Rattle.decimal.specs.declared.Expected.{Expected}
 use Rattle.decimal.specs.declared.Expected.the-variants.{Variables, Limit, LineEnd}
 use Rattle.decimal.specs.declared.Parsed.{Parsed}
 use Rattle.decimal.specs.declared.Parsed.the-variants.{Input, Wrong, TooShort}
-use Rattle.decimal.specs.declared.Checked.the-variants.{Good, Wrong as NotGood}
+use Rattle.decimal.specs.declared.Body.the-variants.{Good, Wrong as NotGood}
 use Rattle.decimal.specs.declared.Heading.the-variants.{Missing}
-use Rattle.decimal.specs.Inner.Places.{wordsAt}
-use Rattle.decimal.specs.Inner.Values.{checked, valuesFound, Answers}
-use Rattle.decimal.specs.Laws.Places.{start-words}
+use Rattle.decimal.specs.Inner.Positions.{wordsAt}
+use Rattle.decimal.specs.Inner.Values.{bodyJudged, valuesFound, Answers}
+use Rattle.decimal.specs.Laws.Positions.{start-words}
 use Rattle.decimal.specs.Laws.Items.{HeadingFound, HeadingSeen}
 use Rattle.decimal.specs.Laws.Values.{good-values}
 use Rattle.decimal.specs.Laws.Buffers.{input-length}
@@ -82,8 +82,8 @@ module _ (text : List ℕ) where
 
 -- ---- what follows it
 
-checked-wrong : {A : Type 0} (read : Read A) (line : ℕ) (expected : Expected) → checked read ≡ NotGood line expected → read ≡ wrong line expected
-unfolding checked
+checked-wrong : {A : Type 0} (read : Read A) (line : ℕ) (expected : Expected) → bodyJudged read ≡ NotGood line expected → read ≡ wrong line expected
+unfolding bodyJudged
 checked-wrong (got a) line expected e = let z : _≡_ {A = ℕ} 0 1 = cc in absurd (omega arith)
 checked-wrong (wrong at other) line expected e = let p : at ≡ line = cc in let q : other ≡ expected = cc in cc
 
@@ -97,12 +97,12 @@ module _ (end n limit : ℕ) (words : List Word) where
   body-values e = rw (e, bodyRead)
 
   module _ (e : hasMore words ≡ false) (count : ℕ) (c : count ≡ 2 ^ n) where
-    pub body-wrong : (line : ℕ) (expected : Expected) → checked (valuesRead end count words) ≡ NotGood line expected → bodyRead end n limit words ≡ wrong line expected
+    pub body-wrong : (line : ℕ) (expected : Expected) → bodyJudged (valuesRead end count words) ≡ NotGood line expected → bodyRead end n limit words ≡ wrong line expected
     body-wrong line expected w =
         body-values e
         ∙ ap (mapRead (λ values. record { n = n; limit = limit; values = values })) (ap (λ k. valuesRead end k words) (sym c) ∙ checked-wrong (valuesRead end count words) line expected w)
 
-    pub body-good : checked (valuesRead end count words) ≡ Good → bodyRead end n limit words ≡ got (record { n = n; limit = limit; values = valuesFound count words })
+    pub body-good : bodyJudged (valuesRead end count words) ≡ Good → bodyRead end n limit words ≡ got (record { n = n; limit = limit; values = valuesFound count words })
     body-good g =
         body-values e
         ∙ ap (mapRead (λ values. record { n = n; limit = limit; values = values })) (ap (λ k. valuesRead end k words) (sym c) ∙ good-values end count words g .0)

@@ -13,11 +13,11 @@ use Rattle.numbers.specs.Laws.Written.{length-kept, stored-behind}
 use Rattle.decimal.specs.Words.{Word, lastLine}
 use Rattle.decimal.specs.Numbers.{numberOf}
 use Rattle.decimal.specs.Table.{Read, got, wrong, mapRead, isValueWord, valuesRead}
-use Rattle.decimal.specs.declared.Place.{Place}
+use Rattle.decimal.specs.declared.Position.{Position}
 use Rattle.decimal.specs.declared.Expected.the-variants.{Value}
-use Rattle.decimal.specs.declared.Checked.the-variants.{Good, Wrong}
-use Rattle.decimal.specs.Inner.Places.{wordsAt, PlaceIn}
-use Rattle.decimal.specs.Inner.Values.{checked, valuesFound}
+use Rattle.decimal.specs.declared.Body.the-variants.{Good, Wrong}
+use Rattle.decimal.specs.Inner.Positions.{wordsAt, PositionIn}
+use Rattle.decimal.specs.Inner.Values.{bodyJudged, valuesFound}
 use Rattle.decimal.specs.Laws.Items.{SeenValue, SeenOther, SeenEnd}
 
 -- ---- one value more
@@ -40,8 +40,8 @@ module _ (end count : ℕ) (word : Word) (more : List Word) where
   other-found e = rw (e, valuesFound)
 
 -- What is done to the values does not change whether they are there.
-checked-map : {A B : Type 0} (f : A → B) (read : Read A) → checked (mapRead f read) ≡ checked read
-unfolding checked
+checked-map : {A B : Type 0} (f : A → B) (read : Read A) → bodyJudged (mapRead f read) ≡ bodyJudged read
+unfolding bodyJudged
 checked-map f (got a) = refl
 checked-map f (wrong line expected) = refl
 
@@ -56,8 +56,8 @@ map-same f g same (wrong line expected) = refl
 -- ---- the values so far
 
 -- The values found so far, those that are left, and the row with those found in front.
-pub record ValuesSoFar (text : List ℕ) (start : Place) (count : ℕ) (row : List ℤ) (place : Place) (j : ℕ) (row′ : List ℤ) : Type 0 where
-  pub placed : PlaceIn text place
+pub record ValuesSoFar (text : List ℕ) (start : Position) (count : ℕ) (row : List ℤ) (place : Position) (j : ℕ) (row′ : List ℤ) : Type 0 where
+  pub placed : PositionIn text place
   pub few : j ≤ count
   pub found : List ℤ
   pub many : length found ≡ j
@@ -65,8 +65,8 @@ pub record ValuesSoFar (text : List ℕ) (start : Place) (count : ℕ) (row : Li
   pub all : valuesFound count (wordsAt text start) ≡ found ++ valuesFound (count - j) (wordsAt text place)
   pub written : row′ ≡ overwritten row 0 found
 
-module _ (text : List ℕ) (start : Place) (count : ℕ) (row : List ℤ) where
-  pub no-values : PlaceIn text start → ValuesSoFar text start count row start 0 row
+module _ (text : List ℕ) (start : Position) (count : ℕ) (row : List ℤ) where
+  pub no-values : PositionIn text start → ValuesSoFar text start count row start 0 row
   no-values p = record {
     placed = p;
     few = omega arith;
@@ -84,17 +84,17 @@ module _ (text : List ℕ) (start : Place) (count : ℕ) (row : List ℤ) where
       unchanged (got values) = refl
       unchanged (wrong line expected) = refl
 
-  module _ {place : Place} {j : ℕ} {row′ : List ℤ} (v : ValuesSoFar text start count row place j row′) where
+  module _ {place : Position} {j : ℕ} {row′ : List ℤ} (v : ValuesSoFar text start count row place j row′) where
     -- The row is as long as before.
     pub values-kept : count ≤ length row → length row′ ≡ length row
     values-kept room = length-kept row 0 (v .found) (v .written) (let m = v .many in let f = v .few in omega arith)
 
     -- All are found.
-    pub all-checked : count ≤ j → checked (valuesRead (lastLine text) count (wordsAt text start)) ≡ checked (valuesRead (lastLine text) 0 (wordsAt text place))
+    pub all-checked : count ≤ j → bodyJudged (valuesRead (lastLine text) count (wordsAt text start)) ≡ bodyJudged (valuesRead (lastLine text) 0 (wordsAt text place))
     all-checked l =
-        ap checked (v .left)
+        ap bodyJudged (v .left)
         ∙ checked-map (λ more. v .found ++ more) (valuesRead (lastLine text) (count - j) (wordsAt text place))
-        ∙ ap (λ k. checked (valuesRead (lastLine text) k (wordsAt text place))) (let e : count - j ≡ 0 = omega arith in e)
+        ∙ ap (λ k. bodyJudged (valuesRead (lastLine text) k (wordsAt text place))) (let e : count - j ≡ 0 = omega arith in e)
 
     pub all-written : count ≤ j → row′ ≡ overwritten row 0 (valuesFound count (wordsAt text start))
     unfolding valuesFound
@@ -108,7 +108,7 @@ module _ (text : List ℕ) (start : Place) (count : ℕ) (row : List ℤ) where
       one-less = omega arith
 
       -- A value more.
-      pub next-value : {number : ℤ} {behind : Place} → count ≤ length row → SeenValue text place number behind → ValuesSoFar text start count row behind (j + 1) (set row′ j number)
+      pub next-value : {number : ℤ} {behind : Position} → count ≤ length row → SeenValue text place number behind → ValuesSoFar text start count row behind (j + 1) (set row′ j number)
       next-value {number} {behind} room s =
           let m = v .many in
           let word : Word = record { line = behind .line; bytes = s .word } in
@@ -137,22 +137,22 @@ module _ (text : List ℕ) (start : Place) (count : ℕ) (row : List ℤ) where
           }
 
       -- The text goes wrong here: the answer, and the row with those before.
-      wrong-here : {line : ℕ} → valuesRead (lastLine text) (suc (count - (j + 1))) (wordsAt text place) ≡ wrong line Value → checked (valuesRead (lastLine text) count (wordsAt text start)) ≡ Wrong line Value
-      unfolding checked
-      wrong-here e = ap checked (v .left ∙ ap (mapRead (λ more. v .found ++ more)) (ap (λ k. valuesRead (lastLine text) k (wordsAt text place)) one-less ∙ e))
+      wrong-here : {line : ℕ} → valuesRead (lastLine text) (suc (count - (j + 1))) (wordsAt text place) ≡ wrong line Value → bodyJudged (valuesRead (lastLine text) count (wordsAt text start)) ≡ Wrong line Value
+      unfolding bodyJudged
+      wrong-here e = ap bodyJudged (v .left ∙ ap (mapRead (λ more. v .found ++ more)) (ap (λ k. valuesRead (lastLine text) k (wordsAt text place)) one-less ∙ e))
 
       written-here : valuesFound (suc (count - (j + 1))) (wordsAt text place) ≡ [] → row′ ≡ overwritten row 0 (valuesFound count (wordsAt text start))
       written-here e = v .written ∙ ap (overwritten row 0) (sym (v .all ∙ ap (λ more. v .found ++ more) (ap (λ k. valuesFound k (wordsAt text place)) one-less ∙ e) ∙ append-nil (v .found)))
 
       module _ {line : ℕ} (s : SeenOther text place line) where
-        pub other-checked : checked (valuesRead (lastLine text) count (wordsAt text start)) ≡ Wrong line Value
+        pub other-checked : bodyJudged (valuesRead (lastLine text) count (wordsAt text start)) ≡ Wrong line Value
         other-checked = wrong-here (ap (valuesRead (lastLine text) (suc (count - (j + 1)))) (s .first) ∙ other-read (lastLine text) (count - (j + 1)) (record { line = line; bytes = s .word }) (s .more) (s .value))
 
         pub other-written : row′ ≡ overwritten row 0 (valuesFound count (wordsAt text start))
         other-written = written-here (ap (valuesFound (suc (count - (j + 1)))) (s .first) ∙ other-found (lastLine text) (count - (j + 1)) (record { line = line; bytes = s .word }) (s .more) (s .value))
 
       module _ {line : ℕ} (s : SeenEnd text place line) where
-        pub ended-checked : checked (valuesRead (lastLine text) count (wordsAt text start)) ≡ Wrong line Value
+        pub ended-checked : bodyJudged (valuesRead (lastLine text) count (wordsAt text start)) ≡ Wrong line Value
         unfolding valuesRead
         ended-checked = wrong-here (ap (valuesRead (lastLine text) (suc (count - (j + 1)))) (s .none) ∙ ap (λ line. wrong line Value) (sym (s .last)))
 
@@ -163,17 +163,17 @@ module _ (text : List ℕ) (start : Place) (count : ℕ) (row : List ℤ) where
 -- ---- values that are all there
 
 -- They are those found, as many as asked for.
-pub good-values : (end count : ℕ) (words : List Word) → checked (valuesRead end count words) ≡ Good → (valuesRead end count words ≡ got (valuesFound count words)) × (length (valuesFound count words) ≡ count)
-unfolding checked valuesRead valuesFound
+pub good-values : (end count : ℕ) (words : List Word) → bodyJudged (valuesRead end count words) ≡ Good → (valuesRead end count words ≡ got (valuesFound count words)) × (length (valuesFound count words) ≡ count)
+unfolding bodyJudged valuesRead valuesFound
 good-values end zero [] e = (refl, refl)
 good-values end zero (word ∷ more) e = let z : _≡_ {A = ℕ} 0 1 = cc in absurd (omega arith)
 good-values end (suc count) [] e = let z : _≡_ {A = ℕ} 0 1 = cc in absurd (omega arith)
 good-values end (suc count) (word ∷ more) e =
     yes-or-no (isValueWord (word .bytes))
     (λ v.
-    let before = good-values end count more (sym (checked-map (λ values. numberOf (word .bytes) ∷ values) (valuesRead end count more)) ∙ ap checked (sym (value-read end count word more v)) ∙ e) in
+    let before = good-values end count more (sym (checked-map (λ values. numberOf (word .bytes) ∷ values) (valuesRead end count more)) ∙ ap bodyJudged (sym (value-read end count word more v)) ∙ e) in
     let found = value-found end count word more v in (
       value-read end count word more v ∙ ap (mapRead (λ values. numberOf (word .bytes) ∷ values)) (before .0) ∙ ap got (sym found),
       ap length found ∙ ap suc (before .1),
     ))
-    (λ v. let w = ap checked (sym (other-read end count word more v)) ∙ e in let z : _≡_ {A = ℕ} 0 1 = cc in absurd (omega arith))
+    (λ v. let w = ap bodyJudged (sym (other-read end count word more v)) ∙ e in let z : _≡_ {A = ℕ} 0 1 = cc in absurd (omega arith))

@@ -11,7 +11,7 @@ use Rattle.numbers.specs.Laws.Bools.{yes-or-no, both}
 use Rattle.numbers.specs.Laws.Selections.{keep-passed, keep-failed, keep-length}
 use Rattle.lines.specs.Reading.{inFront, pieces}
 use Rattle.decimal.specs.Words.{isNewline, isBlank, isSome, Word, lineWords, linesWords, lastLine}
-use Rattle.decimal.specs.Inner.Places.{isSeparator, lineAfter, wordsFrom, newlines}
+use Rattle.decimal.specs.Inner.Positions.{isSeparator, lineAfter, wordsFrom, newlines}
 
 -- ---- tests of a byte
 

@@ -20,7 +20,7 @@ use Rattle.decimal.specs.Numbers.{isSign, digitsOf, isNegative, isNumber
 use Rattle.decimal.specs.Table.{got, mapRead, Table, isValueWord, valuesRead, isHeading, hasMore, bodyRead, limitRead, wordsRead, textRead}
 use Rattle.decimal.specs.Text.{valueLine, tableText}
 use Rattle.decimal.specs.Inner.Numbers.{isWhole}
-use Rattle.decimal.specs.Inner.Places.{isSeparator, lineAfter, wordsFrom}
+use Rattle.decimal.specs.Inner.Positions.{isSeparator, lineAfter, wordsFrom}
 use Rattle.decimal.specs.Laws.Words.{isInner, stops, separator-passed, no-words, word-first}
 use Rattle.decimal.specs.Laws.Values.{value-read}
 use Rattle.decimal.specs.Laws.Tables.{variables-found, limit-found, body-values}

@@ -15,7 +15,7 @@ use Rattle.numbers.specs.Laws.Answers.{not-refused, unless-accepted, map-refuse
 use Rattle.numbers.specs.Laws.Bools.{both, and-both}
 use Rattle.blocks.specs.Classes.{railAt}
 use Rattle.diagram.specs.Build.{ofTable}
-use Rattle.cascade.specs.Compile.{imageFor, compile, report, compileAnswer, compileCells, compileBuffer}
+use Rattle.cascade.specs.Compile.{imageFor, compile, imageSummary, compileAnswer, compileCells, compileBuffer}
 use Rattle.cascade.specs.Groupings.{BestGrouping, addressWidth, fitsFrom, fits, chosen, isGrouping}
 use Rattle.cascade.specs.Plan.{plan, planCells, noCell, entries, sizeArray, cellArray, totals, planAnswer}
 use Rattle.cascade.specs.Laws.Chosen.{chosen-refuses, chosen-refuses-by-nine, chosen-best, best-chosen}
@@ -135,7 +135,7 @@ module _ (n : ℕ) (table : List ℤ) (limit : ℕ) where
   pub decided-compile : (room : ℕ) → Decided (compileAnswer n table limit room) (compileChecks n table limit room)
   unfolding compileAnswer compile compileChecks
   decided-compile room =
-      decided-map (report n table) (compile n table limit room)
+      decided-map (imageSummary n table) (compile n table limit room)
       (decided-then (plan n table limit) decided-sizes
       (λ sizes e. decided-unless (leb (length (imageFor n table sizes)) room) (room-test room sizes (plan-best sizes e)) (decided-accepted sizes)))
 
@@ -165,9 +165,9 @@ module _ (n : ℕ) (table : List ℤ) (limit : ℕ) where
       let parts = all-append (planChecks n table limit) _ .0 h in
       rw (sizes-value (parts .0) best b, le-test (length (imageFor n table best)) room .1 (parts .1 .0 best b))
 
-  pub compile-value : (room : ℕ) → AllHold (compileChecks n table limit room) → (best : List ℕ) → BestGrouping n table limit best → compileAnswer n table limit room ≡ accepted (report n table best)
+  pub compile-value : (room : ℕ) → AllHold (compileChecks n table limit room) → (best : List ℕ) → BestGrouping n table limit best → compileAnswer n table limit room ≡ accepted (imageSummary n table best)
   unfolding compileAnswer
-  compile-value room h best b = ap (mapAnswer (report n table)) (compiled-value room h best b)
+  compile-value room h best b = ap (mapAnswer (imageSummary n table)) (compiled-value room h best b)
 
   pub compile-cells : (room : ℕ) → AllHold (compileChecks n table limit room) → (best : List ℕ) → BestGrouping n table limit best → compileCells n table limit room ≡ padded 12 noCell (planCells n table 0 best)
   unfolding compileCells cellArray entries mostVariables
@@ -180,7 +180,7 @@ module _ (n : ℕ) (table : List ℤ) (limit : ℕ) where
 
   pub compile-kept : (buffer : List ℕ) (k : ℕ) → compileAnswer n table limit (length buffer) ≡ refused k → compileBuffer n table limit buffer ≡ buffer
   unfolding compileBuffer compileAnswer
-  compile-kept buffer k h = buffer-kept (compile n table limit (length buffer)) k (imageFor n table) buffer (map-refused (report n table) (compile n table limit (length buffer)) k h)
+  compile-kept buffer k h = buffer-kept (compile n table limit (length buffer)) k (imageFor n table) buffer (map-refused (imageSummary n table) (compile n table limit (length buffer)) k h)
 
   -- The arrays beside a refusal hold 0.
   pub plan-arrays-refused : (k : ℕ) → planAnswer n table limit ≡ refused k → (sizeArray (plan n table limit) ≡ replicate 12 0) × (cellArray n table (plan n table limit) ≡ replicate 12 noCell)
@@ -189,4 +189,4 @@ module _ (n : ℕ) (table : List ℤ) (limit : ℕ) where
 
   pub compile-cells-refused : (room k : ℕ) → compileAnswer n table limit room ≡ refused k → compileCells n table limit room ≡ replicate 12 noCell
   unfolding compileAnswer compileCells cellArray entries mostVariables padded
-  compile-cells-refused room k h = rw (map-refused (report n table) (compile n table limit room) k h)
+  compile-cells-refused room k h = rw (map-refused (imageSummary n table) (compile n table limit room) k h)

@@ -14,17 +14,17 @@ use Rattle.image.specs.Run.{run, ran, expand, expandBuffer, expanded, Expands}
 use Rattle.image.specs.Theorems.{run-turns-x-away, expand-turns-length-away}
 use Rattle.image.specs.declared.Expanded.{Expanded}
 use Rattle.image.specs.declared.Ran.{Ran}
-use Rattle.cascade.specs.Compile.{Report, report, compileAnswer, compileBuffer, compiledImage, outcome, Compiles}
+use Rattle.cascade.specs.Compile.{ImageSummary, imageSummary, compileAnswer, compileBuffer, compiledImage, outcome, Compiles}
 use Rattle.cascade.specs.Theorems.{compiled-runs, compiled-expands, compiled-bits}
 use Rattle.cascade.specs.Laws.Admitting.{compile-admits, report-admits}
 use Rattle.cascade.specs.declared.Compiled.{Compiled}
 use Rattle.cascade.specs.declared.Outcome.the-variants.{Image, Refused}
 use Rattle.demands.specs.Clients.{runTable, RunsTable, expandTable, ExpandsTable}
 
-module _ (n : ℕ) (table : List ℤ) (limit : ℕ) (buffer : List ℕ) (r : Report) (compiled : compileAnswer n table limit (length buffer) ≡ accepted r) where
+module _ (n : ℕ) (table : List ℤ) (limit : ℕ) (buffer : List ℕ) (r : ImageSummary) (compiled : compileAnswer n table limit (length buffer) ≡ accepted r) where
   -- The compiled image lies within the buffer.
   pub image-inside : r .imageLength ≤ length (compileBuffer n table limit buffer)
-  unfolding compileBuffer report
+  unfolding compileBuffer imageSummary
   image-inside =
       let q = report-admits n table limit (length buffer) r compiled in
       let c = compile-admits n table limit (length buffer) (q .0) (q .1 .0) in
@@ -49,7 +49,7 @@ module _ (n : ℕ) (table : List ℤ) (limit : ℕ) (buffer : List ℕ) (r : Rep
 module _ (n : ℕ) (table : List ℤ) (limit : ℕ) (buffer : List ℕ) (c : Compiled) (buffer′ : List ℕ) (compiles : Compiles n table limit buffer c buffer′) where
   -- Compile gave an image.
   module _ (bytes nodes cells bits : ℕ) (given : c .outcome ≡ Image bytes nodes cells bits) where
-    abbrev reported : Report
+    abbrev reported : ImageSummary
     reported = record { imageLength = bytes; nodes = nodes; planned = record { cells = cells; bits = bits } }
 
     known : compileAnswer n table limit (length buffer) ≡ accepted reported

@@ -27,7 +27,7 @@ use Rattle.image.specs.declared.Command.{Command}
 use Rattle.image.specs.declared.Command.the-variants.{Table, Cell, Word, End}
 use Rattle.image.specs.declared.Place.{Place}
 use Rattle.demands.specs.Checks.{Decided}
-use Rattle.demands.specs.Admitted.{OperandRules, commandHere, placeChecks, Reached, first, next, ImageFault, ImageOf, imageCheck, runChecks, expandChecks}
+use Rattle.demands.specs.Admitted.{OperandRules, commandHere, placeChecks, ComesTo, first, next, ImageFault, ImageOf, imageCheck, runChecks, expandChecks}
 use Rattle.demands.specs.Laws.Checks.{decided-accepted, decided-unless, decided-then, decided-check}
 use Rattle.demands.specs.Laws.Tests.{le-test, lt-test, eq-test, and-test, or-test, variables-test, value-test}
 
@@ -102,14 +102,14 @@ step-goes image p command q e =
 
 module _ (image : List ℕ) where
   -- An accepted step that is not the last comes to a reached place.
-  reached-on : (p : Place) (command : Command) (q : Place) → Reached image p → step image p ≡ accepted (command, q) → isEnd command ≡ false → Reached image q
+  reached-on : (p : Place) (command : Command) (q : Place) → ComesTo image p → step image p ≡ accepted (command, q) → isEnd command ≡ false → ComesTo image q
   reached-on p command q r e l =
       let s = step-goes image p command q e in
-      subst (Reached image) (sym (s .1))
+      subst (ComesTo image) (sym (s .1))
       (next p r (decided-step image p .accepts .1 ((command, q), e)) (λ d. absurd (true≢false (sym (end-test image p .1 d) ∙ ap isEnd (sym (s .0)) ∙ l))))
 
   -- From a reached place on, a refusal is that of the first check which fails at some reached place: by its own step, or after it.
-  after-step : (steps : ℕ) (p : Place) (k : ℕ) → Reached image p → ((command : Command) (q : Place) → step image p ≡ accepted (command, q) → isEnd command ≡ false → readFrom steps image q ≡ refused k → ImageFault image k) → (s : Answer (Command × Place)) → step image p ≡ s → andThen s (λ t. followedBy (t .0) (readFrom steps image (t .1))) ≡ refused k → ImageFault image k
+  after-step : (steps : ℕ) (p : Place) (k : ℕ) → ComesTo image p → ((command : Command) (q : Place) → step image p ≡ accepted (command, q) → isEnd command ≡ false → readFrom steps image q ≡ refused k → ImageFault image k) → (s : Answer (Command × Place)) → step image p ≡ s → andThen s (λ t. followedBy (t .0) (readFrom steps image (t .1))) ≡ refused k → ImageFault image k
   unfolding ImageFault
   after-step steps p k r later (refused j) e f = let same : j ≡ k = cc in (p, (r, decided-step image p .refuses k .1 (e ∙ ap refused same)))
   after-step steps p k r later (accepted (command, q)) e f =
@@ -117,7 +117,7 @@ module _ (image : List ℕ) where
       (λ l. not-refused (command ∷ []) k (sym (followed-last command (readFrom steps image q) l) ∙ f))
       (λ l. later command q e l (map-refused (λ rest. command ∷ rest) (readFrom steps image q) k (sym (followed-on command (readFrom steps image q) l) ∙ f)))
 
-  from-reached : (steps : ℕ) (p : Place) → Reached image p → p .at ≤ length image → length image < p .at + steps → (k : ℕ) → readFrom steps image p ≡ refused k → ImageFault image k
+  from-reached : (steps : ℕ) (p : Place) → ComesTo image p → p .at ≤ length image → length image < p .at + steps → (k : ℕ) → readFrom steps image p ≡ refused k → ImageFault image k
   unfolding readFrom
   from-reached zero p r inside enough k h = absurd (omega arith)
   from-reached (suc steps) p r inside enough k h =
@@ -129,7 +129,7 @@ module _ (image : List ℕ) where
       (step image p) refl h
 
   -- What is left to be read at a reached place decides the whole image.
-  reached-decides : AreBytes image → (p : Place) → Reached image p → Checking image p
+  reached-decides : AreBytes image → (p : Place) → ComesTo image p → Checking image p
   reached-decides bytes p first = checking-start image
   reached-decides bytes q (next p r all more) =
       let s = decided-step image p .accepts .0 all in

@@ -1,12 +1,10 @@
--- The checks on a table alone and on a record list alone, and the outcome that the enum stands for.
+-- The checks on a table alone and on a record list alone.
 use Prim.Native.Nat.{ℕ}
 use mathlib.Core.List.{List}
 use lib.IntN.{ℤ}
-use Rattle.numbers.specs.Answers.{Answer, accepted, refused}
+use Rattle.numbers.specs.Answers.{Answer, accepted}
 use Rattle.diagram.specs.Build.{ofTable}
 use Rattle.diagram.specs.Walk.{ofList}
-use Rattle.diagram.specs.declared.Checked.{Checked}
-use Rattle.diagram.specs.declared.Checked.the-variants.{Passed, Refused}
 
 -- What those checks alone answer.
 unfoldable pub tableChecks : ℕ → List ℤ → Answer Unit
@@ -15,8 +13,3 @@ tableChecks n table = ofTable n table (accepted tt)
 -- What the checks on an offset and a record list alone answer.
 unfoldable pub listChecks : ℕ → ℤ → List ℤ → Answer Unit
 listChecks n offset list = ofList n offset list (accepted tt)
-
--- The paper's answer that the outcome of such checks stands for.
-unfoldable pub checked : Checked → Answer Unit
-checked Passed = accepted tt
-checked (Refused number) = refused number

@@ -10,7 +10,7 @@ use Rattle.numbers.specs.Ranges.{isVariables, isValue, isWeight, eqZ, lesser, g
 use Rattle.diagram.specs.Walk.{variableAt, lowAt, highAt, weightAt, leastAt, greatestAt, recordCount, childFits, recordFits, listFits, bitSet}
 use Rattle.diagram.specs.declared.Edge.{Edge}
 use Rattle.diagram.specs.declared.Range.{Range}
-use Rattle.diagram.specs.declared.Reached.{Reached}
+use Rattle.diagram.specs.declared.Waypoint.{Waypoint}
 
 -- A list has record k, from 1.
 pub record Recorded (list : List ℤ) (k : ℕ) : Type 0 where
@@ -37,18 +37,18 @@ edgeAt list i (suc k) x =
     ]
 
 -- What the path of X reaches from a value and a node, once so many variables from low on are read, the highest first.
-unfoldable pub descend : List ℤ → ℕ → ℕ → ℕ → Reached → Reached
+unfoldable pub descend : List ℤ → ℕ → ℕ → ℕ → Waypoint → Waypoint
 descend list low zero x reached = reached
 descend list low (suc count) x reached =
     let edge = edgeAt list (low + count) (reached .node) x in
     descend list low count x (record { value = reached .value +ℤ edge .weight; node = edge .node })
 
 -- Where every path starts: the offset, and the root.
-unfoldable pub rootOf : ℤ → List ℤ → Reached
+unfoldable pub rootOf : ℤ → List ℤ → Waypoint
 rootOf offset list = record { value = offset; node = recordCount list }
 
 -- A path that may be followed: every node of the list may be walked from, and the value is one that the variables read so far give.
-pub record PathReady (list : List ℤ) (low count : ℕ) (reached : Reached) : Type 0 where
+pub record PathReady (list : List ℤ) (low count : ℕ) (reached : Waypoint) : Type 0 where
   pub nodes : (k : ℕ) → k ≤ recordCount list → Walkable list k
   pub height : low + count ≤ 12
   pub known : reached .node ≤ recordCount list

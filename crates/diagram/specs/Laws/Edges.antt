@@ -22,7 +22,7 @@ use Rattle.diagram.specs.Build.{nodeRoom}
 use Rattle.diagram.specs.Walk.{variableAt, lowAt, highAt, weightAt, recordFits, recordCount, listFits, bitSet, pathWeight, walkValue}
 use Rattle.diagram.specs.Inner.Edges.{Walkable, edgeAt, descend, rootOf, PathReady, Passing}
 use Rattle.diagram.specs.declared.Edge.{Edge}
-use Rattle.diagram.specs.declared.Reached.{Reached}
+use Rattle.diagram.specs.declared.Waypoint.{Waypoint}
 use Rattle.diagram.specs.Laws.Checks.{unequal, child-node, edges-of-record}
 use Rattle.diagram.specs.Laws.Steps.{path-terminal}
 
@@ -118,19 +118,19 @@ passes-walkable n list h k l = record {
 -- ---- what a path reaches
 
 -- One variable further.
-abbrev pub further : List ℤ → ℕ → ℕ → Reached → Reached
+abbrev pub further : List ℤ → ℕ → ℕ → Waypoint → Waypoint
 further list i x r = record { value = r .value +ℤ edgeAt list i (r .node) x .weight; node = edgeAt list i (r .node) x .node }
 
-pub descend-more : (list : List ℤ) (low count x : ℕ) (r : Reached) → descend list low (suc count) x r ≡ descend list low count x (further list (low + count) x r)
+pub descend-more : (list : List ℤ) (low count x : ℕ) (r : Waypoint) → descend list low (suc count) x r ≡ descend list low count x (further list (low + count) x r)
 unfolding descend
 descend-more list low count x r = refl
 
-pub descend-none : (list : List ℤ) (low x : ℕ) (r : Reached) → descend list low 0 x r ≡ r
+pub descend-none : (list : List ℤ) (low x : ℕ) (r : Waypoint) → descend list low 0 x r ≡ r
 unfolding descend
 descend-none list low x r = refl
 
 -- What is reached, with the path from there, makes the same value.
-pub descend-value : (list : List ℤ) (low count x : ℕ) (r : Reached) → descend list low count x r .value +ℤ pathWeight list low (descend list low count x r .node) x ≡ r .value +ℤ pathWeight list (low + count) (r .node) x
+pub descend-value : (list : List ℤ) (low count x : ℕ) (r : Waypoint) → descend list low count x r .value +ℤ pathWeight list low (descend list low count x r .node) x ≡ r .value +ℤ pathWeight list (low + count) (r .node) x
 unfolding descend
 descend-value list low zero x r = ap (λ i. r .value +ℤ pathWeight list i (r .node) x) (let e : low ≡ low + 0 = omega arith in e)
 descend-value list low (suc count) x r =
@@ -148,7 +148,7 @@ descend-all n offset list x =
     ∙ ap (λ i. offset +ℤ pathWeight list i (recordCount list) x) (zero-add n)
 
 -- Some variables after others.
-pub descend-on : (list : List ℤ) (low count x : ℕ) (r : Reached) → descend list 0 low x (descend list low count x r) ≡ descend list 0 (low + count) x r
+pub descend-on : (list : List ℤ) (low count x : ℕ) (r : Waypoint) → descend list 0 low x (descend list low count x r) ≡ descend list 0 (low + count) x r
 descend-on list low zero x r = ap (descend list 0 low x) (descend-none list low x r) ∙ ap (λ m. descend list 0 m x r) (let e : low ≡ low + 0 = omega arith in e)
 descend-on list low (suc count) x r =
     ap (descend list 0 low x) (descend-more list low count x r)
@@ -170,7 +170,7 @@ high-bit : (x y low count : ℕ) → x / 2 ^ low ≡ y / 2 ^ low → bitSet x (l
 unfolding bitSet
 high-bit x y low count e = ap (λ q. eqb (q % 2) 1) (sym (shr-shr x low count) ∙ ap (λ q. q / 2 ^ count) e ∙ shr-shr y low count)
 
-pub descend-same : (list : List ℤ) (low count x y : ℕ) (r : Reached) → x / 2 ^ low ≡ y / 2 ^ low → descend list low count x r ≡ descend list low count y r
+pub descend-same : (list : List ℤ) (low count x y : ℕ) (r : Waypoint) → x / 2 ^ low ≡ y / 2 ^ low → descend list low count x r ≡ descend list low count y r
 descend-same list low zero x y r e = descend-none list low x r ∙ sym (descend-none list low y r)
 descend-same list low (suc count) x y r e =
     descend-more list low count x r
@@ -181,7 +181,7 @@ descend-same list low (suc count) x y r e =
 -- ---- the way down
 
 -- One variable further it may be followed on.
-pub ready-further : (list : List ℤ) (low count x : ℕ) (r : Reached) → PathReady list low (suc count) r → PathReady list low count (further list (low + count) x r)
+pub ready-further : (list : List ℤ) (low count x : ℕ) (r : Waypoint) → PathReady list low (suc count) r → PathReady list low count (further list (low + count) x r)
 ready-further list low count x r p = record {
   nodes = p .nodes;
   height = let h = p .height in omega arith;
@@ -195,7 +195,7 @@ ready-further list low count x r p = record {
 }
 
 -- And when all of them are read.
-pub ready-below : (list : List ℤ) (low count x : ℕ) (r : Reached) → PathReady list low count r → PathReady list 0 low (descend list low count x r)
+pub ready-below : (list : List ℤ) (low count x : ℕ) (r : Waypoint) → PathReady list low count r → PathReady list 0 low (descend list low count x r)
 ready-below list low zero x r p = rw (descend-none list low x r) (record { nodes = p .nodes; height = (let h = p .height in omega arith); known = p .known; bounded = (let b = p .bounded in omega arith) })
 ready-below list low (suc count) x r p = rw (descend-more list low count x r) (ready-below list low count x (further list (low + count) x r) (ready-further list low count x r p))
 

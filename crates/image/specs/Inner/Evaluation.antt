@@ -10,7 +10,7 @@ use Rattle.numbers.specs.Lists.{numbersFrom}
 use Rattle.numbers.specs.Ranges.{mostVariables}
 use Rattle.operands.specs.Bytes.{unsignedAt, signedAt}
 use Rattle.image.specs.Cells.{Card}
-use Rattle.image.specs.Commands.{cardOf}
+use Rattle.image.specs.Commands.{tableSize, cellSize, wordSize, cardOf}
 use Rattle.image.specs.Reader.{reading}
 use Rattle.image.specs.Run.{Result, groupValue, runCard}
 use Rattle.image.specs.declared.Command.{Command}
@@ -40,19 +40,19 @@ resultSoFar progress = record { value = progress .value; words = progress .words
 
 -- Before the first cell: behind the table command, with its offset and class 0.
 unfoldable pub firstProgress : List ℕ → Progress
-firstProgress image = record { at = 6; left = unsignedAt image 1 1; class = 0; value = signedAt image 2; words = 0 }
+firstProgress image = record { at = tableSize; left = unsignedAt image 1 1; class = 0; value = signedAt image 2; words = 0 }
 
 -- The group of the cell ahead, as its byte says.
 unfoldable pub groupAhead : List ℕ → Progress → ℕ
 groupAhead image progress = unsignedAt image (progress .at + 1) 1
 
--- Where the word for X stands in the cell ahead, each word being 7 bytes.
+-- Where the word for X stands in the cell ahead.
 unfoldable pub wordPlace : List ℕ → ℕ → Progress → ℕ
-wordPlace image x progress = progress .at + 7 + 7 * (progress .class * 2 ^ groupAhead image progress + groupValue (progress .left) (groupAhead image progress) x)
+wordPlace image x progress = progress .at + cellSize + wordSize * (progress .class * 2 ^ groupAhead image progress + groupValue (progress .left) (groupAhead image progress) x)
 
 -- Behind the last word of the cell ahead.
 unfoldable pub nextPlace : List ℕ → Progress → ℕ
-nextPlace image progress = progress .at + 7 + 7 * (unsignedAt image (progress .at + 2) 2 * 2 ^ groupAhead image progress)
+nextPlace image progress = progress .at + cellSize + wordSize * (unsignedAt image (progress .at + 2) 2 * 2 ^ groupAhead image progress)
 
 -- After the cell ahead: its word's class is taken, and its weight added.
 unfoldable pub cellRead : List ℕ → ℕ → Progress → Progress
@@ -70,7 +70,7 @@ pub record CellAhead (image : List ℕ) (x : ℕ) (progress : Progress) : Type 0
   pub some : 1 ≤ groupAhead image progress
   pub inside : groupAhead image progress ≤ progress .left
   pub next : nextPlace image progress ≤ length image
-  pub word : wordPlace image x progress + 7 ≤ length image
+  pub word : wordPlace image x progress + wordSize ≤ length image
   pub small : mag (progress .value +ℤ signedAt image (wordPlace image x progress + 3)) < 2147483648
   pub words : progress .words < mostVariables
 

@@ -1,14 +1,11 @@
 -- The kinds of commands, and what the values of the code's enums stand for.
 use Prim.Native.Nat.{ℕ}
 use mathlib.Core.Bool.{Bool, true, false}
-use Rattle.numbers.specs.Answers.{Answer, accepted, refused}
 use Rattle.image.specs.Reader.{Due, table, cell, word, end}
 use Rattle.image.specs.declared.Command.{Command}
 use Rattle.image.specs.declared.Command.the-variants as commands
 use Rattle.image.specs.declared.Kind.{Kind}
 use Rattle.image.specs.declared.Kind.the-variants as kinds
-use Rattle.image.specs.declared.Checked.{Checked}
-use Rattle.image.specs.declared.Checked.the-variants as checks
 
 -- The due command that a value of the enum stands for.
 unfoldable pub dueOf : Kind → Due
@@ -37,8 +34,3 @@ isEnd (commands.Table n offset) = false
 isEnd (commands.Cell group incoming outgoing width) = false
 isEnd (commands.Word class weight) = false
 isEnd (commands.End bits) = true
-
--- The paper's answer that a checked image stands for.
-unfoldable pub checked : Checked → Answer (Unit {0})
-checked checks.Whole = accepted tt
-checked (checks.Refused number) = refused number

@@ -42,6 +42,6 @@ pub negative-decimal : (z : ℤ) → ltZ z (pos 0) ≡ true → decimal z ≡ 45
 negative-decimal (pos number) e = let l = ltb-true number 0 e in absurd (omega arith)
 negative-decimal (negsuc number) e = rw add-one (decimal-negative number)
 
--- Any other is its magnitude.
+-- Any other is its unsigned part.
 pub other-decimal : (z : ℤ) → ltZ z (pos 0) ≡ false → decimal z ≡ decimal (pos (mag z))
 other-decimal z e = ap decimal (not-negative z e)

@@ -1,4 +1,5 @@
--- The bits of a magnitude, from which both widths are worked out.
+-- The bits of an unsigned part, from which both widths are worked out. The unsigned part of an integer (`mag`) is what two's complement writes
+-- beside the sign: n both for n and for -(n + 1).
 use Prim.Native.Nat.{ℕ, _^_, max}
 use mathlib.Core.List.{List, [], _∷_}
 use lib.Dec.{ltb}
@@ -10,7 +11,7 @@ use Rattle.numbers.specs.Lists.{least}
 unfoldable pub bitLength : ℕ → ℕ
 bitLength number = least (λ k. ltb number (2 ^ k)) number
 
--- The greatest magnitude of a cell's weights.
-unfoldable pub greatestMagnitude : List ℤ → ℕ
-greatestMagnitude [] = 0
-greatestMagnitude (z ∷ weights) = max (mag z) (greatestMagnitude weights)
+-- The greatest unsigned part of a cell's weights.
+unfoldable pub greatestPart : List ℤ → ℕ
+greatestPart [] = 0
+greatestPart (z ∷ weights) = max (mag z) (greatestPart weights)

@@ -15,7 +15,7 @@ use lib.IntN.{ℤ, pos, negsuc}
 use lib.Signed.{mag, ltZ, nonNeg}
 use borrow.Author.Tests.{ltb-true, lt-ltb, le-ltb}
 use Rattle.numbers.specs.Lists.{every}
-use Rattle.numbers.specs.Inner.Bits.{bitLength, greatestMagnitude}
+use Rattle.numbers.specs.Inner.Bits.{bitLength, greatestPart}
 use Rattle.numbers.specs.Ranges.{isWeight}
 use Rattle.numbers.specs.Widths.{railWidth, holds, holdsUnsigned, leastWidth, noneNegative, weightWidth}
 use Rattle.numbers.specs.Laws.Bools.{yes-or-no, both, and-both}
@@ -56,11 +56,11 @@ rail-width-bits a =
     (rail-width-least (suc a) (bitLength a) (bit-length-holds a))
     (bit-length-least a (railWidth (suc a)) (rail-width-tells (suc a)))
 
--- ---- the weight width, by the greatest magnitude
+-- ---- the weight width, by the greatest unsigned part
 
--- A test of magnitudes holds of every weight exactly where it holds of the greatest.
-all-below : (test : ℤ → Bool) (k : ℕ) → 0 < k → (weights : List ℤ) → ((j : ℕ) → j < length weights → test (getD weights j (pos 0)) ≡ ltb (mag (getD weights j (pos 0))) k) → (every test weights ≡ true) ↔ (greatestMagnitude weights < k)
-unfolding every greatestMagnitude
+-- A test of unsigned parts holds of every weight exactly where it holds of the greatest.
+all-below : (test : ℤ → Bool) (k : ℕ) → 0 < k → (weights : List ℤ) → ((j : ℕ) → j < length weights → test (getD weights j (pos 0)) ≡ ltb (mag (getD weights j (pos 0))) k) → (every test weights ≡ true) ↔ (greatestPart weights < k)
+unfolding every greatestPart
 all-below test k some [] tells = ((λ h. some), (λ h. refl))
 all-below test k some (z ∷ weights) tells =
     let rest = all-below test k some weights (λ j l. tells (suc j) (omega arith)) in
@@ -73,42 +73,42 @@ all-below test k some (z ∷ weights) tells =
       (λ h. and-both (test z) (every test weights) (here ∙ lt-ltb (mag z) k (omega arith)) (rest .1 (omega arith))),
     )
 
--- Without a sign a weight that is not negative is held by its magnitude.
-below-magnitude : (a : ℕ) (z : ℤ) → nonNeg z ≡ true → holdsUnsigned a z ≡ ltb (mag z) (2 ^ a)
+-- Without a sign a weight that is not negative is held by its unsigned part.
+below-part : (a : ℕ) (z : ℤ) → nonNeg z ≡ true → holdsUnsigned a z ≡ ltb (mag z) (2 ^ a)
 unfolding holdsUnsigned
-below-magnitude a (pos m) plain = refl
-below-magnitude a (negsuc m) plain = absurd (false≢true plain)
+below-part a (pos m) plain = refl
+below-part a (negsuc m) plain = absurd (false≢true plain)
 
 module _ (weights : List ℤ) where
-  signed-held : (a : ℕ) → (every (holds (suc a)) weights ≡ true) ↔ (greatestMagnitude weights < 2 ^ a)
+  signed-held : (a : ℕ) → (every (holds (suc a)) weights ≡ true) ↔ (greatestPart weights < 2 ^ a)
   signed-held a = all-below (holds (suc a)) (2 ^ a) (pow-pos a) weights (λ j l. holds-suc a (getD weights j (pos 0)))
 
-  unsigned-held : noneNegative weights ≡ true → (a : ℕ) → (every (holdsUnsigned a) weights ≡ true) ↔ (greatestMagnitude weights < 2 ^ a)
+  unsigned-held : noneNegative weights ≡ true → (a : ℕ) → (every (holdsUnsigned a) weights ≡ true) ↔ (greatestPart weights < 2 ^ a)
   unfolding noneNegative
-  unsigned-held plain a = all-below (holdsUnsigned a) (2 ^ a) (pow-pos a) weights (λ j l. below-magnitude a (getD weights j (pos 0)) (every-at nonNeg weights (pos 0) plain j l))
+  unsigned-held plain a = all-below (holdsUnsigned a) (2 ^ a) (pow-pos a) weights (λ j l. below-part a (getD weights j (pos 0)) (every-at nonNeg weights (pos 0) plain j l))
 
-  -- Without a negative weight it is the length of the greatest magnitude.
-  pub unsigned-length : noneNegative weights ≡ true → weightWidth weights ≡ bitLength (greatestMagnitude weights)
+  -- Without a negative weight it is the length of the greatest unsigned part.
+  pub unsigned-length : noneNegative weights ≡ true → weightWidth weights ≡ bitLength (greatestPart weights)
   unsigned-length plain =
-      let most = greatestMagnitude weights in
+      let most = greatestPart weights in
       le-antisymm
       (unsigned-width-least weights plain (bitLength most) (unsigned-held plain (bitLength most) .1 (bit-length-holds most)))
       (bit-length-least most (weightWidth weights) (unsigned-held plain (weightWidth weights) .0 (unsigned-width-holds weights plain)))
 
   -- In two's complement weights that are not all 0 have one bit more.
-  pub complement-length : (every (holds 0) weights ≡ true → ⊥) → leastWidth holds weights ≡ suc (bitLength (greatestMagnitude weights))
+  pub complement-length : (every (holds 0) weights ≡ true → ⊥) → leastWidth holds weights ≡ suc (bitLength (greatestPart weights))
   complement-length some =
-      let most = greatestMagnitude weights in
+      let most = greatestPart weights in
       le-antisymm
       (least-width-le holds weights (suc (bitLength most)) (signed-held (bitLength most) .1 (bit-length-holds most)))
       (at-least (leastWidth holds weights) (least-width-holds holds holds-enough weights))
     where
-      at-least : (w : ℕ) → every (holds w) weights ≡ true → suc (bitLength (greatestMagnitude weights)) ≤ w
+      at-least : (w : ℕ) → every (holds w) weights ≡ true → suc (bitLength (greatestPart weights)) ≤ w
       at-least zero h = absurd (some h)
-      at-least (suc v) h = let b = bit-length-least (greatestMagnitude weights) v (signed-held v .0 h) in omega arith
+      at-least (suc v) h = let b = bit-length-least (greatestPart weights) v (signed-held v .0 h) in omega arith
 
   -- With a negative weight it is that.
-  pub signed-length : noneNegative weights ≡ false → weightWidth weights ≡ suc (bitLength (greatestMagnitude weights))
+  pub signed-length : noneNegative weights ≡ false → weightWidth weights ≡ suc (bitLength (greatestPart weights))
   unfolding holds noneNegative
   signed-length signed =
       signed-width weights signed
@@ -117,27 +117,27 @@ module _ (weights : List ℤ) where
       true≢false
       (sym (every-from nonNeg weights (pos 0) (λ j l. ap nonNeg (eqZ-true (getD weights j (pos 0)) (pos 0) (every-at (holds zero) weights (pos 0) h j l)))) ∙ signed))
 
-  -- Weights of magnitudes below 2^a have at most a + 1 bits.
-  pub weight-width-within : (a : ℕ) → greatestMagnitude weights < 2 ^ a → weightWidth weights ≤ suc a
+  -- Weights of unsigned parts below 2^a have at most a + 1 bits.
+  pub weight-width-within : (a : ℕ) → greatestPart weights < 2 ^ a → weightWidth weights ≤ suc a
   weight-width-within a h =
-      let b = bit-length-least (greatestMagnitude weights) a h in
+      let b = bit-length-least (greatestPart weights) a h in
       yes-or-no (noneNegative weights)
       (λ plain. let w = unsigned-length plain in omega arith)
       (λ signed. let w = signed-length signed in omega arith)
 
--- The magnitudes of weights in range are below 2^24.
-magnitudes-small : (weights : List ℤ) → every isWeight weights ≡ true → greatestMagnitude weights < 2 ^ 24
-magnitudes-small weights h =
+-- The unsigned parts of weights in range are below 2^24.
+parts-small : (weights : List ℤ) → every isWeight weights ≡ true → greatestPart weights < 2 ^ 24
+parts-small weights h =
     all-below (λ z. ltb (mag z) (2 ^ 24)) (2 ^ 24) (pow-pos 24) weights (λ j l. refl) .0
     (every-from (λ z. ltb (mag z) (2 ^ 24)) weights (pos 0)
     (λ j l. lt-ltb (mag (getD weights j (pos 0))) (2 ^ 24) (let m = weight-mag (getD weights j (pos 0)) (every-at isWeight weights (pos 0) h j l) in omega arith)))
 
 -- No cell has a weight width of more than 25, nor would any in two's complement.
 pub weight-width-most : (weights : List ℤ) → every isWeight weights ≡ true → weightWidth weights ≤ 25
-weight-width-most weights h = weight-width-within weights 24 (magnitudes-small weights h)
+weight-width-most weights h = weight-width-within weights 24 (parts-small weights h)
 
 pub signed-width-most : (weights : List ℤ) → every isWeight weights ≡ true → leastWidth holds weights ≤ 25
-signed-width-most weights h = least-width-le holds weights 25 (signed-held weights 24 .1 (magnitudes-small weights h))
+signed-width-most weights h = least-width-le holds weights 25 (signed-held weights 24 .1 (parts-small weights h))
 
 -- ---- two weights
 
@@ -148,7 +148,7 @@ pair-sign (pos a) (pos b) = rw (le-ltb a 0 (omega arith), le-ltb b 0 (omega arit
 pair-sign (pos a) (negsuc b) = rw (le-ltb a 0 (omega arith))
 pair-sign (negsuc a) high = refl
 
--- The greater of two magnitudes is the greatest.
-pub pair-magnitude : (low high : ℤ) → max (mag low) (mag high) ≡ greatestMagnitude (low ∷ high ∷ [])
-unfolding greatestMagnitude
-pair-magnitude low high = omega arith
+-- The greater of two unsigned parts is the greatest.
+pub pair-part : (low high : ℤ) → max (mag low) (mag high) ≡ greatestPart (low ∷ high ∷ [])
+unfolding greatestPart
+pair-part low high = omega arith

@@ -29,13 +29,13 @@ pub natural-value : (a : ℕ) → a ≤ 8388607 → isValue (pos a) ≡ true
 unfolding isValue within
 natural-value a h = le-leb a 8388607 h
 
--- A value's magnitude.
+-- A value's unsigned part.
 pub value-mag : (z : ℤ) → isValue z ≡ true → mag z ≤ 8388607
 unfolding isValue within
 value-mag (pos a) h = leb-true a 8388607 h
 value-mag (negsuc a) h = leb-true a 8388607 (both (leb a 8388607) true h .0)
 
--- A weight's magnitude.
+-- A weight's unsigned part.
 pub weight-mag : (z : ℤ) → isWeight z ≡ true → mag z ≤ 16777215
 unfolding isWeight within
 weight-mag (pos a) h = leb-true a 16777215 h

@@ -9,7 +9,7 @@ use lib.Dec.{leb}
 use lib.IntN.{ℤ, pos, negsuc}
 use lib.Signed.{mag, ltZ, leZ, nonNeg}
 use borrow.Author.Tests.{leb-true, leb-false, le-leb, ltb-true, ltb-false}
-use Rattle.numbers.specs.Inner.Bits.{bitLength, greatestMagnitude}
+use Rattle.numbers.specs.Inner.Bits.{bitLength, greatestPart}
 use Rattle.numbers.specs.Lists.{every}
 use Rattle.numbers.specs.Ranges.{lesser, greater}
 use Rattle.numbers.specs.Extremes.{lowest, highest}
@@ -50,7 +50,7 @@ ltZ-turn (pos a) (negsuc b) h = refl
 ltZ-turn (negsuc a) (pos b) h = absurd (true≢false h)
 ltZ-turn (negsuc a) (negsuc b) h = le-leb a b (ltb-false b a h)
 
--- What lies between two numbers is not greater in magnitude than both.
+-- What lies between two numbers has no greater unsigned part than both.
 pub mag-between : (l z h : ℤ) (k : ℕ) → leZ l z ≡ true → leZ z h ≡ true → mag l < k → mag h < k → mag z < k
 mag-between l (pos b) (pos c) k p q lk hk = let r = leb-true b c q in omega arith
 mag-between l (pos b) (negsuc c) k p q lk hk = absurd (false≢true q)
@@ -132,7 +132,7 @@ extremes-sign low high (z ∷ weights) h =
     extremes-sign (lesser low z) (greater high z) weights (greater-sign high z h)
     ∙ rw (lesser-sign low z) (and-assoc (nonNeg low) (nonNeg z) (noneNegative weights))
 
--- The greater magnitude of the two extremes, with one number more.
+-- The greater unsigned part of the two extremes, with one number more.
 extremes-wider : (low high z : ℤ) → leZ low high ≡ true → max (mag (lesser low z)) (mag (greater high z)) ≡ max (max (mag low) (mag high)) (mag z)
 extremes-wider low high z o =
     let least = lesser low z in
@@ -146,22 +146,22 @@ extremes-wider low high z o =
     let b = greater-one-of (λ y. mag y ≤ max (max (mag low) (mag high)) (mag z)) high z (omega arith) (omega arith) in
     le-antisymm (omega arith) (omega arith)
 
--- The extremes of all weights have the greatest magnitude.
-extremes-magnitude : (low high : ℤ) (weights : List ℤ) → leZ low high ≡ true → max (mag (lowest low weights)) (mag (highest high weights)) ≡ max (max (mag low) (mag high)) (greatestMagnitude weights)
-unfolding lowest highest greatestMagnitude
-extremes-magnitude low high [] o = omega arith
-extremes-magnitude low high (z ∷ weights) o =
-    extremes-magnitude (lesser low z) (greater high z) weights (leZ-trans (lesser low z) low (greater high z) (lesser-left low z) (leZ-trans low high (greater high z) o (greater-left high z)))
+-- The extremes of all weights have the greatest unsigned part.
+extremes-part : (low high : ℤ) (weights : List ℤ) → leZ low high ≡ true → max (mag (lowest low weights)) (mag (highest high weights)) ≡ max (max (mag low) (mag high)) (greatestPart weights)
+unfolding lowest highest greatestPart
+extremes-part low high [] o = omega arith
+extremes-part low high (z ∷ weights) o =
+    extremes-part (lesser low z) (greater high z) weights (leZ-trans (lesser low z) low (greater high z) (lesser-left low z) (leZ-trans low high (greater high z) o (greater-left high z)))
     ∙ (let w = extremes-wider low high z o in omega arith)
 
 -- The weight width of a cell is that of its least and its greatest weight, with 0 among them.
 pub width-by-extremes : (weights : List ℤ) → weightWidth (lowest (pos 0) weights ∷ highest (pos 0) weights ∷ []) ≡ weightWidth weights
-unfolding every noneNegative greatestMagnitude
+unfolding every noneNegative greatestPart
 width-by-extremes weights =
     let pair = lowest (pos 0) weights ∷ highest (pos 0) weights ∷ [] in
     let sign : noneNegative pair ≡ noneNegative weights = extremes-sign (pos 0) (pos 0) weights refl in
-    let wide = extremes-magnitude (pos 0) (pos 0) weights (leZ-refl (pos 0)) in
-    let same : greatestMagnitude pair ≡ greatestMagnitude weights = omega arith in
+    let wide = extremes-part (pos 0) (pos 0) weights (leZ-refl (pos 0)) in
+    let same : greatestPart pair ≡ greatestPart weights = omega arith in
     yes-or-no (noneNegative weights)
     (λ plain. unsigned-length pair (sign ∙ plain) ∙ ap bitLength same ∙ sym (unsigned-length weights plain))
     (λ signed. signed-length pair (sign ∙ signed) ∙ ap (λ m. suc (bitLength m)) same ∙ sym (signed-length weights signed))

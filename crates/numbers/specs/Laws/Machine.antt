@@ -1,4 +1,4 @@
--- What two's complement holds: a number read back from its bits, its sign and its magnitude.
+-- What two's complement holds: a number read back from its bits, its sign and its unsigned part.
 use Prim.Native.Nat.{ℕ, zero, suc, _+_, _-_, _^_, _≤_, _<_, zero-le}
 use native.Mathlib.Omega.{arith}
 use borrow.Author.Tests.{le-ltb, eq-eqb, ne-eqb}
@@ -15,12 +15,12 @@ use Rattle.numbers.specs.Ranges.{eqZ}
 use Rattle.numbers.specs.Laws.Bools.{yes-or-no}
 use Rattle.numbers.specs.Laws.Integers.{eqZ-true, eqZ-refl}
 
--- -1 less a negative number is its magnitude.
+-- -1 less a negative number is its unsigned part.
 pub complement : (z : ℤ) → ltZ z (pos 0) ≡ true → negsuc 0 -ℤ z ≡ pos (mag z)
 complement (pos a) h = absurd (false≢true (sym (le-ltb a 0 zero-le) ∙ h))
 complement (negsuc a) h = rw (le-ltb (suc a) 1 (omega arith)) (ap pos (let e : suc a - 1 ≡ a = omega arith in e))
 
--- A number that is not negative is its magnitude.
+-- A number that is not negative is its unsigned part.
 pub not-negative : (z : ℤ) → ltZ z (pos 0) ≡ false → z ≡ pos (mag z)
 not-negative (pos a) h = refl
 not-negative (negsuc a) h = absurd (true≢false h)
@@ -30,16 +30,16 @@ pub sign-test : (z : ℤ) → nonNeg z ≡ not (ltZ z (pos 0))
 sign-test (pos a) = rw (le-ltb a 0 zero-le)
 sign-test (negsuc a) = refl
 
--- A magnitude within a signed width: it is held signed and unsigned, and is read back as it is.
+-- An unsigned part within a signed width: it is held signed and unsigned, and is read back as it is.
 module _ (w : Width) (z : ℤ) (h : SFits w z) where
-  pub magnitude-signed : SFits w (pos (mag z))
-  magnitude-signed = record { sfits = h .sfits }
+  pub part-signed : SFits w (pos (mag z))
+  part-signed = record { sfits = h .sfits }
 
-  pub magnitude-back : toZ w (ofZ w (pos (mag z))) ≡ pos (mag z)
-  magnitude-back = toZ-ofZ magnitude-signed
+  pub part-back-signed : toZ w (ofZ w (pos (mag z))) ≡ pos (mag z)
+  part-back-signed = toZ-ofZ part-signed
 
-  pub magnitude-fits : Fits w (mag z)
-  magnitude-fits = record { fits = half-full w (h .sfits) }
+  pub part-fits : Fits w (mag z)
+  part-fits = record { fits = half-full w (h .sfits) }
 
 -- A number that is read back as some p, not negative, may be cast to an unsigned one.
 pub cast-back : (w : Width) (y : ℤ) (p : ℕ) → y ≡ pos p → Fits w p → T (nonNeg y) × Fits w (natAbs y)

@@ -41,7 +41,7 @@ unfolding within
 within-mag p (pos m) = refl
 within-mag p (negsuc m) = and-true (leb m p)
 
--- a + 1 bits hold what lies below 2^a in magnitude.
+-- a + 1 bits hold what has an unsigned part below 2^a.
 pub holds-suc : (a : ℕ) (z : ℤ) → holds (suc a) z ≡ ltb (mag z) (2 ^ a)
 unfolding holds
 holds-suc a z =
@@ -50,7 +50,7 @@ holds-suc a z =
     ∙ sym (leb·suc-suc (mag z) (2 ^ a - 1))
     ∙ ap (leb (suc (mag z))) (suc-ones a)
 
--- More bits than the magnitude hold a weight.
+-- More bits than the unsigned part hold a weight.
 pub holds-enough : (a : ℕ) (z : ℤ) → mag z < a → holds a z ≡ true
 holds-enough zero z h = absurd (omega arith)
 holds-enough (suc a) z h = holds-suc a z ∙ lt-ltb (mag z) (2 ^ a) (lt-of-lt-of-le (below-power (mag z)) (pow-mono (omega arith)))
@@ -61,7 +61,7 @@ unfolding holdsUnsigned
 below-enough a (pos m) h = lt-ltb m _ (let p = below-power m in let q : 2 ^ m ≤ 2 ^ a = pow-mono (omega arith) in omega arith)
 below-enough a (negsuc m) h = refl
 
--- The least width by a rule by which more bits than the magnitude hold a weight: it holds every weight, and none less does.
+-- The least width by a rule by which more bits than the unsigned part hold a weight: it holds every weight, and none less does.
 module _ (rule : ℕ → ℤ → Bool) where
   all-held : ((a : ℕ) (z : ℤ) → mag z < a → rule a z ≡ true) → (weights : List ℤ) (a : ℕ) → enough weights ≤ a → every (rule a) weights ≡ true
   unfolding every enough

@@ -24,7 +24,7 @@ pub four-bytes : (v : ℕ) → bigEndian 4 v ≡ bigEndian 2 (v / 65536) ++ bigE
 unfolding bigEndian
 four-bytes v = ap₂ (λ a b. a ∷ b ∷ bigEndian 2 v) (let e : v / 16777216 % 256 ≡ v / 65536 / 256 % 256 = omega arith in e) (let e : v / 65536 % 256 ≡ v / 65536 / 1 % 256 = omega arith in e)
 
--- The bits of a negative number are the complement of its magnitude; those of another number are its magnitude.
+-- The bits of a negative number are the complement of its unsigned part; those of another number are its unsigned part.
 pub negative-bytes : (z : ℤ) → ltZ z (pos 0) ≡ true → bigEndian 4 (4294967295 - mag z) ≡ signedBytes z
 unfolding signedBytes
 negative-bytes (pos a) h = absurd (false≢true (sym (le-ltb a 0 zero-le) ∙ h))

@@ -9,7 +9,7 @@ use borrow.Author.Tests.{not-true, not-false}
 use Rattle.numbers.specs.Answers.{accepted}
 use Rattle.numbers.specs.Laws.Answers.{map-refused}
 use Rattle.image.specs.declared.Command.{Command}
-use Rattle.image.specs.Inner.Kinds.{checked}
+use Rattle.numbers.specs.Inner.Checks.{checked}
 use Rattle.image.specs.Reader.{readingFor}
 use Rattle.image.specs.Run.{ran, run}
 use Rattle.image.specs.Theorems.{read-for}

@@ -14,7 +14,7 @@ use Rattle.image.specs.Reader.{readingFor}
 use Rattle.image.specs.Theorems.{read-for}
 use Rattle.image.specs.declared.Command.{Command}
 use Rattle.diagram.specs.Laws.Checks.{variables-range}
-use Rattle.cascade.specs.Compile.{Report, compileAnswer, compileBuffer, compiledImage}
+use Rattle.cascade.specs.Compile.{ImageSummary, compileAnswer, compileBuffer, compiledImage}
 use Rattle.cascade.specs.Theorems.{compiled-chosen, compiled-runs, compiled-bits}
 use Rattle.pairs.specs.Pairs.{isPairBits, isPair, pairIndex, pairRun}
 use Rattle.pairs.specs.Theorems.{index-inside}
@@ -29,7 +29,7 @@ bits-of-variables m h =
     let most = range .1 in
     (omega arith, omega arith)
 
-module _ (m : ℕ) (table : List ℤ) (limit : ℕ) (buffer : List ℕ) (r : Report) (compiled : compileAnswer (2 * m) table limit (length buffer) ≡ accepted r) where
+module _ (m : ℕ) (table : List ℤ) (limit : ℕ) (buffer : List ℕ) (r : ImageSummary) (compiled : compileAnswer (2 * m) table limit (length buffer) ≡ accepted r) where
   abbrev image : List ℕ
   image = compiledImage r (compileBuffer (2 * m) table limit buffer)
 

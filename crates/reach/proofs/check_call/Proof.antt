@@ -4,7 +4,7 @@ use borrow.Author.Needs.{needs}
 use borrow.Author.Tests.{not-true, not-false}
 use Rattle.numbers.specs.Answers.{accepted, unless}
 use Rattle.numbers.specs.Ranges.{isLimit}
-use Rattle.diagram.specs.Inner.Checks.{checked}
+use Rattle.numbers.specs.Inner.Checks.{checked}
 use Rattle.diagram.specs.Laws.Builds.{passed-table}
 use Rattle.reach.specs.Inner.Checks.{callChecks}
 use Rattle.reach.specs.Laws.Checks.{call-unfit, call-limited}

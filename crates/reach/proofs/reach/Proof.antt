@@ -15,7 +15,7 @@ use Rattle.blocks.specs.Inner.Layout.{cutPlace, allCounts}
 use Rattle.blocks.specs.Laws.Cuts.{places-most}
 use Rattle.blocks.specs.Laws.Places.{length-counts}
 use Rattle.diagram.specs.Accepted.{Accepted}
-use Rattle.diagram.specs.Inner.Checks.{checked}
+use Rattle.numbers.specs.Inner.Checks.{checked}
 use Rattle.cascade.specs.Laws.Cells.{variables-most}
 use Rattle.reach.specs.Reach.{Reaches}
 use Rattle.reach.specs.declared.Reached.{Reached}

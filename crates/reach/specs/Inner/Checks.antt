@@ -7,7 +7,7 @@ use Rattle.numbers.specs.Lists.{padded}
 use Rattle.numbers.specs.Ranges.{isLimit}
 use Rattle.diagram.specs.Build.{ofTable}
 use Rattle.reach.specs.declared.Reached.{Reached}
-use Rattle.reach.specs.declared.Verdict.the-variants.{Refused}
+use Rattle.reach.specs.declared.ReachVerdict.the-variants.{Refused}
 
 -- What the checks alone answer, which are Plan's.
 unfoldable pub callChecks : ℕ → List ℤ → ℕ → Answer Unit

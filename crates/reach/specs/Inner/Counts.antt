@@ -4,7 +4,7 @@ use mathlib.Core.List.{List}
 use Rattle.numbers.specs.Lists.{numbersFrom, padded}
 use Rattle.reach.specs.Inner.Narrowest.{furthest, widestAbove}
 use Rattle.reach.specs.declared.Reached.{Reached}
-use Rattle.reach.specs.declared.Verdict.the-variants.{Cuts}
+use Rattle.reach.specs.declared.ReachVerdict.the-variants.{Cuts}
 use Rattle.reach.specs.Inner.NarrowCells.{narrowestIn}
 
 -- The number of cuts from 0 to the furthest and the least limit, beside those cuts.

@@ -15,7 +15,7 @@ use Rattle.diagram.specs.Accepted.{Accepted}
 use Rattle.diagram.specs.Build.{ofTable}
 use Rattle.diagram.specs.Inner.Checks.{tableChecks}
 use Rattle.diagram.specs.Laws.Builds.{table-passes, after-checks}
-use Rattle.reach.specs.Reach.{Found, reach}
+use Rattle.reach.specs.Reach.{Reachable, reach}
 use Rattle.reach.specs.Laws.Answers.{answer-tells}
 use Rattle.reach.specs.Inner.Checks.{callChecks}
 
@@ -53,6 +53,6 @@ module _ (n : ℕ) (table : List ℤ) (limit : ℕ) where
   pub call-admits : callChecks n table limit ≡ accepted tt → Accepted n table × (isLimit limit ≡ true)
   call-admits e = either (reach n table limit) refl
     where
-      either : (answer : Answer Found) → reach n table limit ≡ answer → Accepted n table × (isLimit limit ≡ true)
+      either : (answer : Answer Reachable) → reach n table limit ≡ answer → Accepted n table × (isLimit limit ≡ true)
       either (accepted f) r = let t = answer-tells n table limit f r in (t .0, t .1 .0)
       either (refused k) r = not-refused tt k (sym e ∙ sym checks-alone ∙ ap (mapAnswer (λ f. tt)) r)

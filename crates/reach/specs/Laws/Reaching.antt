@@ -20,7 +20,7 @@ use Rattle.diagram.specs.Accepted.{Accepted}
 use Rattle.cascade.specs.Groupings.{addressWidth}
 use Rattle.cascade.specs.Plan.{entries}
 use Rattle.cascade.specs.Laws.Cells.{variables-most}
-use Rattle.reach.specs.Reach.{found, reach, cutArray, totals, reachAnswer, judgement, Reaches}
+use Rattle.reach.specs.Reach.{reachable, reach, cutArray, reachTotals, reachAnswer, reachJudgement, Reaches}
 use Rattle.reach.specs.Inner.Narrowest.{furthest}
 use Rattle.reach.specs.Laws.Answers.{reach-finds}
 use Rattle.reach.specs.Laws.Narrowest.{furthest-same, widest-same}
@@ -47,7 +47,7 @@ module _ (n : ℕ) (table : List ℤ) (a : Accepted n table) {countRow : List �
 
   -- From them Reach's answer follows.
   pub counts-reach : (limit : ℕ) → isLimit limit ≡ true → Reaches n table limit (reachedIn n limit countRow)
-  unfolding reachedIn found reachAnswer totals judgement cutArray entries mostVariables
+  unfolding reachedIn reachable reachAnswer reachTotals reachJudgement cutArray entries mostVariables
   counts-reach limit l =
       let last = furthest-same (narrowestIn countRow) (oneWide n table) n narrowest-is limit in
       let run = ap (λ k. numbersFrom 0 (suc k)) last ∙ sym (cuts-run n table (a .size) limit) in
@@ -55,11 +55,11 @@ module _ (n : ℕ) (table : List ℤ) (a : Accepted n table) {countRow : List �
       let least = widest-same (narrowestIn countRow) (oneWide n table) n narrowest-is n (omega arith) ∙ sym (least-widest n table (a .size)) in
       let finds = reach-finds n table limit a l in
       record {
-        judged = ap₂ (λ k w. accepted (record { count = k; limit = w })) many least ∙ sym (ap (mapAnswer totals) finds);
+        judged = ap₂ (λ k w. accepted (record { count = k; limit = w })) many least ∙ sym (ap (mapAnswer reachTotals) finds);
         listed = ap (padded 13 0) run ∙ sym (ap cutArray finds);
       }
 
 -- A refusal of Reach: its number beside an array of 0.
 pub refused-reaches : (n : ℕ) (table : List ℤ) (limit number : ℕ) → reach n table limit ≡ refused number → Reaches n table limit (refusedReach number)
-unfolding refusedReach judgement reachAnswer cutArray entries mostVariables
-refused-reaches n table limit number e = record { judged = sym (ap (mapAnswer totals) e); listed = sym (ap cutArray e) }
+unfolding refusedReach reachJudgement reachAnswer cutArray entries mostVariables
+refused-reaches n table limit number e = record { judged = sym (ap (mapAnswer reachTotals) e); listed = sym (ap cutArray e) }

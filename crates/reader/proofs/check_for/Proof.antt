@@ -1,7 +1,7 @@
 -- `reader::reading::check_for` meets its contract: another n is 13, else the image is read as ever. Assumes nothing.
 use mathlib.Core.Path.{sym, _∙_, ap}
 use borrow.Author.Needs.{needs}
-use Rattle.image.specs.Inner.Kinds.{checked}
+use Rattle.numbers.specs.Inner.Checks.{checked}
 use Rattle.image.specs.Laws.Reading.{done}
 use Rattle.image.specs.Laws.ReadingFor.{other-refused, other-not}
 use Rattle.reader.proofs.check_for.Statement.{statement}

@@ -18,7 +18,7 @@ use Rattle.numbers.specs.Laws.Extremal.{leasts, greatests}
 use Rattle.diagram.specs.Walk.{walkValue}
 use Rattle.diagram.specs.Inner.Edges.{descend, Passing, PathReady}
 use Rattle.diagram.specs.Laws.Checks.{variables-range}
-use Rattle.diagram.specs.declared.Reached.{Reached}
+use Rattle.diagram.specs.declared.Waypoint.{Waypoint}
 use Rattle.report.specs.Report.{valuesFrom, Figures, figuresOf, reported}
 use Rattle.report.specs.Laws.Answers.{part-order}
 use Rattle.report.specs.Laws.Reports.{values-count, extreme-one, extreme-more, sum-one, sum-more, part-sum-small}
@@ -28,7 +28,7 @@ use Rattle.report.proofs.figures.Statement.{statement}
 use Rattle.report.proofs.figures.Tie as tie
 
 -- The figures of the values from a to x, and the path to x.
-record Gathered (n : ℕ) (offset : ℤ) (list : List ℤ) (a b x : ℕ) (top : Reached) (low high sum : ℤ) : Type 0 where
+record Gathered (n : ℕ) (offset : ℤ) (list : List ℤ) (a b x : ℕ) (top : Waypoint) (low high sum : ℤ) : Type 0 where
   from : a ≤ x
   within : x ≤ b
   reaches : top ≡ topAt n offset list x
@@ -60,10 +60,10 @@ module _ (c : tie.Start Inv-loop μ-loop) where
   most = let p = order .1 in let m = pow-mono {i = c .args .n} {j = 12} (variables-range (c .args .n) (c .pre .0 .variables) .1) in omega arith
 
   -- From what is reached at x the value at x is read.
-  ready : (top : Reached) (x : ℕ) → top ≡ topAt (c .args .n) o list x → PathReady list 0 (lowestOf (c .args .n)) top
+  ready : (top : Waypoint) (x : ℕ) → top ≡ topAt (c .args .n) o list x → PathReady list 0 (lowestOf (c .args .n)) top
   ready top x e = subst (PathReady list 0 (lowestOf (c .args .n))) (sym e) (top-ready (c .args .n) o list passing x)
 
-  valued : (top : Reached) (x : ℕ) → top ≡ topAt (c .args .n) o list x → descend list 0 (lowestOf (c .args .n)) x top .value ≡ walkValue (c .args .n) o list x
+  valued : (top : Waypoint) (x : ℕ) → top ≡ topAt (c .args .n) o list x → descend list 0 (lowestOf (c .args .n)) x top .value ≡ walkValue (c .args .n) o list x
   valued top x e = ap (λ r. descend list 0 (lowestOf (c .args .n)) x r .value) e ∙ top-value (c .args .n) o list x
 
 -- A value as the machine has it, in 32 and in 64 bits.

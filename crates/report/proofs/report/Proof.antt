@@ -2,7 +2,8 @@
 use mathlib.Core.Path.{_≡_, sym, _∙_, ap}
 use mir.Facts.{toZ-ofZ}
 use borrow.Author.Needs.{needs}
-use Rattle.diagram.specs.Inner.Checks.{listChecks, checked}
+use Rattle.diagram.specs.Inner.Checks.{listChecks}
+use Rattle.numbers.specs.Inner.Checks.{checked}
 use Rattle.diagram.specs.Laws.Lists.{list-passed, list-unfit}
 use Rattle.report.specs.Report.{report, reported}
 use Rattle.report.proofs.report.Statement.{statement}

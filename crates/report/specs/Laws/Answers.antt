@@ -107,7 +107,7 @@ module _ (n : ℕ) (offset : ℤ) (list : List ℤ) (a b : ℕ) where
           let m = value-met n offset list a extreme b (answer-part .0) in
           (m .0, m .1, m .2, walked-there (m .0) (m .2) ∙ ap accepted (sym (m .3)))
 
-    -- Its sum is less than 2^40 in magnitude.
+    -- Its sum lies between -2^40 and 2^40.
     pub answer-sum : mag (f .sum) < 2 ^ 40
     unfolding figuresOf
     answer-sum = rw answer-figures (part-sum-small n offset list answer-passing a b (answer-part .1))

@@ -2,7 +2,7 @@
 use mathlib.Core.Path.{sym, _∙_, ap}
 use lib.ListN.{length}
 use borrow.Author.Needs.{needs}
-use Rattle.image.specs.Inner.Kinds.{checked}
+use Rattle.numbers.specs.Inner.Checks.{checked}
 use Rattle.image.specs.Laws.Reading.{done}
 use Rattle.image.specs.Laws.Running.{check-refuses, check-accepts, expand-refused, expands-refused}
 use Rattle.runner.proofs.expand.Statement.{statement}

@@ -1,7 +1,7 @@
 -- `runner::run` meets its contract. Assumes nothing.
 use mathlib.Core.Path.{sym, _∙_, ap}
 use borrow.Author.Needs.{needs}
-use Rattle.image.specs.Inner.Kinds.{checked}
+use Rattle.numbers.specs.Inner.Checks.{checked}
 use Rattle.image.specs.Run.{ran}
 use Rattle.image.specs.Laws.Reading.{done}
 use Rattle.image.specs.Laws.Running.{check-refuses, check-accepts, run-refused}

@@ -3,7 +3,7 @@ use mathlib.Core.Path.{sym, _∙_, ap}
 use lib.ListN.{length}
 use borrow.Author.Needs.{needs}
 use Rattle.numbers.specs.Answers.{unless}
-use Rattle.diagram.specs.Inner.Checks.{checked}
+use Rattle.numbers.specs.Inner.Checks.{checked}
 use Rattle.sums.specs.Sums.{remainderTable, isRemainderBits, intoRoom, reducedSum}
 use Rattle.sums.specs.Laws.Answers.{fills-refused}
 use Rattle.sums.specs.Laws.Checks.{unfit, passed-weights}

@@ -5,7 +5,7 @@ use borrow.Author.Needs.{needs}
 use Rattle.numbers.specs.Answers.{unless}
 use Rattle.numbers.specs.Lists.{every}
 use Rattle.numbers.specs.Ranges.{isValue}
-use Rattle.diagram.specs.Inner.Checks.{checked}
+use Rattle.numbers.specs.Inner.Checks.{checked}
 use Rattle.sums.specs.Sums.{sumTable, intoRoom, plainSum}
 use Rattle.sums.specs.Laws.Answers.{fills-refused}
 use Rattle.sums.specs.Laws.Checks.{unfit, passed-weights}

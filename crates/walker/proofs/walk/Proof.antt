@@ -3,7 +3,8 @@ use mathlib.Core.Path.{_≡_, sym, _∙_, ap}
 use mir.Facts.{toZ-ofZ}
 use borrow.Author.Needs.{needs}
 use Rattle.diagram.specs.Walk.{walk, walked}
-use Rattle.diagram.specs.Inner.Checks.{listChecks, checked}
+use Rattle.diagram.specs.Inner.Checks.{listChecks}
+use Rattle.numbers.specs.Inner.Checks.{checked}
 use Rattle.diagram.specs.Laws.Lists.{list-passed, list-unfit}
 use Rattle.walker.proofs.walk.Statement.{statement}
 use Rattle.walker.proofs.walk.Tie as tie

@@ -11,7 +11,7 @@ use mir.Val.{ofZ, toZ}
 use borrow.Author.Needs.{needs}
 use Rattle.decimal.specs.declared.Item.{Item}
 use Rattle.decimal.specs.Laws.Items.{Seen, item-seen}
-use Rattle.decimal.specs.Laws.Places.{start-place}
+use Rattle.decimal.specs.Laws.Positions.{start-place}
 use Rattle.decimal.specs.Laws.Values.{ValuesSoFar, no-values, values-kept, next-value}
 use Rattle.cases.specs.Laws.Text.{row-full, other-next, nothing-next}
 use Rattle.cases.proofs.case_lines.read_row.Statement.{statement}

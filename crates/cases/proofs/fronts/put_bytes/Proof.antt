@@ -33,14 +33,14 @@ module _ (c : tie.At-loop Inv-loop μ-loop) where
   kept : length (c .loop .bytes) ≡ length (start .args .bytes .now)
   kept = bytes-kept (start .args .bytes .now) (start .args .row .now) (start .pre) (c .loop .inv)
 
-mul-magnitude : tie.Need-mul-magnitude Inv-loop μ-loop
-mul-magnitude c = search needs
+mul-unsigned-part : tie.Need-mul-unsigned-part Inv-loop μ-loop
+mul-unsigned-part c = search needs
 
-shared-slice-copy-out-magnitude : tie.Need-shared-slice-copy-out-magnitude Inv-loop μ-loop
-shared-slice-copy-out-magnitude c = search needs
+shared-slice-copy-out-unsigned-part : tie.Need-shared-slice-copy-out-unsigned-part Inv-loop μ-loop
+shared-slice-copy-out-unsigned-part c = search needs
 
-magnitude-requires : tie.Need-magnitude-requires Inv-loop μ-loop
-magnitude-requires c κs = search needs
+unsigned-part-requires : tie.Need-unsigned-part-requires Inv-loop μ-loop
+unsigned-part-requires c κs = search needs
 
 cast-bytes : tie.Need-cast-bytes Inv-loop μ-loop
 cast-bytes c = search needs
@@ -60,12 +60,12 @@ loop-less : tie.Need-loop-less Inv-loop μ-loop
 loop-less c = search needs
 
 -- The number at the place as a byte.
-byte-is : (c : tie.After-magnitude Inv-loop μ-loop) → c .magnitude .result % 256 ≡ byteOf (getD (start (c .before .before .before) .args .row .now) (c .before .before .before .loop .i) (pos 0))
+byte-is : (c : tie.After-unsigned-part Inv-loop μ-loop) → c .unsigned-part .result % 256 ≡ byteOf (getD (start (c .before .before .before) .args .row .now) (c .before .before .before .loop .i) (pos 0))
 unfolding byteOf
 byte-is c =
     let z = getD (start (c .before .before .before) .args .row .now) (c .before .before .before .loop .i) (pos 0) in
-    let h : SFits w32 z = record { sfits = c .before .magnitude-arg .given } in
-    ap (λ m. m % 256) (c .magnitude .ensures ∙ ap mag (toZ-ofZ h))
+    let h : SFits w32 z = record { sfits = c .before .unsigned-part-arg .given } in
+    ap (λ m. m % 256) (c .unsigned-part .ensures ∙ ap mag (toZ-ofZ h))
 
 loop-again : tie.Need-loop-again Inv-loop μ-loop
 loop-again c =
@@ -89,9 +89,9 @@ put-bytes-spec =
     Inv-loop
     μ-loop
     loop-holds
-    mul-magnitude
-    shared-slice-copy-out-magnitude
-    magnitude-requires
+    mul-unsigned-part
+    shared-slice-copy-out-unsigned-part
+    unsigned-part-requires
     cast-bytes
     slice-write-bytes
     add-i

@@ -5,7 +5,7 @@ use mathlib.Core.List.{List}
 use lib.IntN.{ℤ}
 use borrow.Author.Tests.{not-true, not-false}
 use borrow.Author.Needs.{needs}
-use Rattle.reach.specs.Reach.{judgement}
+use Rattle.reach.specs.Reach.{reachJudgement}
 use Rattle.cases.specs.Rows.{sizesAre}
 use Rattle.cases.specs.Laws.Tests.{passed, failed}
 use Rattle.cases.specs.ReachCases.{verdictIs, reachPasses}
@@ -33,7 +33,7 @@ module _ (c : tie.After-reach) where
   abbrev numbers : List ℤ
   numbers = start .args .numbers .now
 
-  judged : reachPasses numbers (start .args .table .now) (start .args .cuts .now) ≡ (verdictIs numbers (judgement (c .reach .result .verdict)) && sizesAre (c .reach .result .cuts) (start .args .cuts .now))
+  judged : reachPasses numbers (start .args .table .now) (start .args .cuts .now) ≡ (verdictIs numbers (reachJudgement (c .reach .result .verdict)) && sizesAre (c .reach .result .cuts) (start .args .cuts .now))
   judged = reach-judged numbers (start .args .table .now) (c .before .before .size-at .ensures .0) (c .before .size-at2 .ensures .0) (start .args .cuts .now) (c .reach .result) (c .reach .ensures)
 
 returns : tie.Need-returns

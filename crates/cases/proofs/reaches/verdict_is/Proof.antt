@@ -2,7 +2,7 @@
 use mathlib.Core.Path.{sym, _∙_, ap}
 use lib.Dec.{eqb}
 use borrow.Author.Needs.{needs}
-use Rattle.reach.specs.Reach.{judgement}
+use Rattle.reach.specs.Reach.{reachJudgement}
 use Rattle.cases.specs.Rows.{twoSizesAre, answerIs}
 use Rattle.cases.specs.ReachCases.{verdictIs}
 use Rattle.cases.proofs.reaches.verdict_is.Statement.{statement}
@@ -24,17 +24,17 @@ cast-result : tie.Need-cast-result
 cast-result c = search needs
 
 returns : tie.Need-returns
-unfolding verdictIs twoSizesAre answerIs judgement
+unfolding verdictIs twoSizesAre answerIs reachJudgement
 returns c =
     let s = c .before .before .before .before in
-    c .two-sizes-are .ensures ∙ sym (ap (λ v. verdictIs (s .args .numbers .now) (judgement v)) (c .before .before .verdict .given .1))
+    c .two-sizes-are .ensures ∙ sym (ap (λ v. verdictIs (s .args .numbers .now) (reachJudgement v)) (c .before .before .verdict .given .1))
 
 returns-2 : tie.Need-returns-2
-unfolding verdictIs answerIs judgement
+unfolding verdictIs answerIs reachJudgement
 returns-2 c =
     let s = c .before .before .before .before in
     sym
-    (ap (λ v. verdictIs (s .args .numbers .now) (judgement v)) (c .before .before .verdict2 .given .1)
+    (ap (λ v. verdictIs (s .args .numbers .now) (reachJudgement v)) (c .before .before .verdict2 .given .1)
     ∙ ap (λ k. eqb k (c .before .before .verdict2 .given .0 .0)) (sym (c .size-at .ensures .0)))
 
 pub verdict-is-spec : {M : Type 1} → statement M

@@ -10,15 +10,15 @@ use Rattle.cases.proofs.rows.size_at.Tie as tie
 number-at-requires : tie.Need-number-at-requires
 number-at-requires c κs = search needs
 
-magnitude-requires : tie.Need-magnitude-requires
-magnitude-requires c κs = search needs
+unsigned-part-requires : tie.Need-unsigned-part-requires
+unsigned-part-requires c κs = search needs
 
 cast-result : tie.Need-cast-result
 cast-result c = search needs
 
 returns : tie.Need-returns
 unfolding sizeAt
-returns c = (c .magnitude .ensures ∙ ap mag (toZ-ofZ (record { sfits = c .before .number-at .ok }) ∙ c .before .number-at .ensures), c .magnitude .ok)
+returns c = (c .unsigned-part .ensures ∙ ap mag (toZ-ofZ (record { sfits = c .before .number-at .ok }) ∙ c .before .number-at .ensures), c .unsigned-part .ok)
 
 pub size-at-spec : {M : Type 1} → statement M
-size-at-spec = tie.close (tie.spec number-at-requires magnitude-requires cast-result returns)
+size-at-spec = tie.close (tie.spec number-at-requires unsigned-part-requires cast-result returns)

@@ -46,8 +46,8 @@ is-within-requires c κs = search needs
 returns-2 : tie.Need-returns-2
 returns-2 c = let n = c .before .before .before .before in sym (heading-outside _ _ _ _ _ (c .before .before .if1 .left) (sym (test-is (c .before)) ∙ not-true _ (c .if2 .taken))) ∙ heading-is n
 
-magnitude-requires : tie.Need-magnitude-requires
-magnitude-requires c κs = search needs
+unsigned-part-requires : tie.Need-unsigned-part-requires
+unsigned-part-requires c κs = search needs
 
 cast-t14 : tie.Need-cast-t14
 cast-t14 c = search needs
@@ -59,7 +59,7 @@ enum-told-2 : tie.Need-enum-told-2
 enum-told-2 c = search needs
 
 returns-3 : tie.Need-returns-3
-returns-3 c = let n = c .before .before .before .before .before in ap (λ size. Found size (n .number .given .0 .1 .1 .0)) (c .magnitude .ensures ∙ ap mag (number-back (c .before .before .before .before))) ∙ sym (heading-found _ _ _ _ _ (c .before .before .before .if1 .left) (sym (test-is (c .before .before)) ∙ not-false _ (c .before .if2 .left))) ∙ heading-is n
+returns-3 c = let n = c .before .before .before .before .before in ap (λ size. Found size (n .number .given .0 .1 .1 .0)) (c .unsigned-part .ensures ∙ ap mag (number-back (c .before .before .before .before))) ∙ sym (heading-found _ _ _ _ _ (c .before .before .before .if1 .left) (sym (test-is (c .before .before)) ∙ not-false _ (c .before .if2 .left))) ∙ heading-is n
 
 returns-4 : tie.Need-returns-4
 unfolding headingAt headingOf
@@ -78,7 +78,7 @@ heading-spec =
     returns
     is-within-requires
     returns-2
-    magnitude-requires
+    unsigned-part-requires
     cast-t14
     enum-told
     enum-told-2

@@ -2,13 +2,13 @@
 use mathlib.Core.Path.{sym, _∙_, ap, subst}
 use Prim.Native.Nat.{_≤_, _<_}
 use lib.ListN.{length}
-use Rattle.decimal.specs.declared.Place.{Place}
+use Rattle.decimal.specs.declared.Position.{Position}
 use Rattle.decimal.specs.declared.Expected.the-variants.{TextEnd}
-use Rattle.decimal.specs.declared.Checked.the-variants.{Wrong}
+use Rattle.decimal.specs.declared.Body.the-variants.{Wrong}
 use Rattle.decimal.specs.Words.{lastLine}
 use Rattle.decimal.specs.Table.{valuesRead}
-use Rattle.decimal.specs.Inner.Values.{checked}
-use Rattle.decimal.specs.Laws.Places.{skipped-none, skipped-word}
+use Rattle.decimal.specs.Inner.Values.{bodyJudged}
+use Rattle.decimal.specs.Laws.Positions.{skipped-none, skipped-word}
 use borrow.Author.Needs.{needs}
 use Rattle.decimal.proofs.values.check_end.Statement.{statement}
 use Rattle.decimal.proofs.values.check_end.Tie as tie
@@ -17,19 +17,19 @@ skip-requires : tie.Need-skip-requires
 skip-requires c κs = search needs
 
 returns : tie.Need-returns
-unfolding checked valuesRead
+unfolding bodyJudged valuesRead
 returns c =
     let k = c .before .before in
     let text = k .before .before .args .text .now in
-    sym (ap (λ words. checked (valuesRead (lastLine text) 0 words)) (skipped-none (k .before .before .pre) (subst (λ (place : Place). length text ≤ place .at) (k .skip .ensures) (c .if1 .taken))))
+    sym (ap (λ words. bodyJudged (valuesRead (lastLine text) 0 words)) (skipped-none (k .before .before .pre) (subst (λ (place : Position). length text ≤ place .at) (k .skip .ensures) (c .if1 .taken))))
 
 returns-2 : tie.Need-returns-2
-unfolding checked valuesRead
+unfolding bodyJudged valuesRead
 returns-2 c =
     let k = c .before .before in
     let text = k .before .before .args .text .now in
-    ap (λ (place : Place). Wrong (place .line) TextEnd) (k .skip .ensures)
-    ∙ sym (ap (λ words. checked (valuesRead (lastLine text) 0 words)) (skipped-word (k .before .before .pre) (subst (λ (place : Place). place .at < length text) (k .skip .ensures) (c .if1 .left))))
+    ap (λ (place : Position). Wrong (place .line) TextEnd) (k .skip .ensures)
+    ∙ sym (ap (λ words. bodyJudged (valuesRead (lastLine text) 0 words)) (skipped-word (k .before .before .pre) (subst (λ (place : Position). place .at < length text) (k .skip .ensures) (c .if1 .left))))
 
 pub check-end-spec : {M : Type 1} → statement M
 check-end-spec = tie.close (tie.spec skip-requires returns returns-2)

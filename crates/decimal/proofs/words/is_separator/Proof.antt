@@ -2,7 +2,7 @@
 use borrow.Author.Needs.{needs}
 use borrow.Author.Tests.{eq-eqb, ne-eqb}
 use Rattle.decimal.specs.Words.{isNewline}
-use Rattle.decimal.specs.Inner.Places.{isSeparator}
+use Rattle.decimal.specs.Inner.Positions.{isSeparator}
 use Rattle.decimal.proofs.words.is_separator.Statement.{statement}
 use Rattle.decimal.proofs.words.is_separator.Tie as tie
 

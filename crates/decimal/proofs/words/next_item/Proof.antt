@@ -4,12 +4,12 @@ use mathlib.Core.Path.{_≡_, sym, _∙_, ap, ap₂}
 use native.Mathlib.Omega.{arith}
 use mathlib.Core.List.{List}
 use lib.ListN.{take, drop}
-use Rattle.decimal.specs.declared.Place.{Place}
+use Rattle.decimal.specs.declared.Position.{Position}
 use Rattle.decimal.specs.declared.Item.the-variants.{Valued}
-use Rattle.decimal.specs.Inner.Places.{wordLength}
+use Rattle.decimal.specs.Inner.Positions.{wordLength}
 use Rattle.decimal.specs.Inner.Numbers.{wordNumber}
 use Rattle.decimal.specs.Inner.Items.{wordThere, wordBehind, wordItem, itemThere, itemAt}
-use Rattle.decimal.specs.Laws.Places.{word-fits}
+use Rattle.decimal.specs.Laws.Positions.{word-fits}
 use Rattle.decimal.specs.Laws.Items.{there-ended, there-word}
 use borrow.Author.Needs.{needs}
 use Rattle.decimal.proofs.words.next_item.Statement.{statement}
@@ -53,10 +53,10 @@ module _ (c : tie.After-word-number) where
   abbrev text : List ℕ
   text = past .before .before .args .text .now
 
-  abbrev first : Place
+  abbrev first : Position
   first = past .skip .result
 
-  abbrev behind : Place
+  abbrev behind : Position
   behind = record { at = ended .word-end .result; line = first .line }
 
   word-is : c .word-number .result ≡ wordNumber (wordThere text first)

@@ -8,9 +8,9 @@ use lib.ListN.{length, getD}
 use borrow.Author.Tests.{eq-eqb, ne-eqb, not-true, not-false}
 use borrow.Author.Needs.{needs}
 use Rattle.decimal.specs.Words.{isNewline}
-use Rattle.decimal.specs.Inner.Places.{lineAfter}
+use Rattle.decimal.specs.Inner.Positions.{lineAfter}
 use Rattle.decimal.specs.Laws.Words.{line-after-newline, line-after-other}
-use Rattle.decimal.specs.Laws.Places.{stepped, Skipping, skipping-on, skip-stops, skip-ends, line-small}
+use Rattle.decimal.specs.Laws.Positions.{stepped, Skipping, skipping-on, skip-stops, skip-ends, line-small}
 use Rattle.decimal.proofs.words.skip.Statement.{statement}
 use Rattle.decimal.proofs.words.skip.Tie as tie
 

@@ -4,7 +4,7 @@ use mathlib.Core.Path.{refl, sym, _∙_}
 use native.Mathlib.Omega.{arith}
 use lib.ListN.{length}
 use borrow.Author.Needs.{needs}
-use Rattle.decimal.specs.Laws.Places.{WordPassed, word-goes-on, word-stops, word-ends}
+use Rattle.decimal.specs.Laws.Positions.{WordPassed, word-goes-on, word-stops, word-ends}
 use Rattle.decimal.proofs.words.word_end.Statement.{statement}
 use Rattle.decimal.proofs.words.word_end.Tie as tie
 

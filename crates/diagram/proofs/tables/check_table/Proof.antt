@@ -8,7 +8,8 @@ use borrow.Author.Needs.{needs}
 use borrow.Author.Tests.{not-true, not-false, eq-eqb, ne-eqb}
 use Rattle.numbers.specs.Ranges.{isVariables}
 use Rattle.diagram.specs.Build.{ofTable}
-use Rattle.diagram.specs.Inner.Checks.{tableChecks, checked}
+use Rattle.diagram.specs.Inner.Checks.{tableChecks}
+use Rattle.numbers.specs.Inner.Checks.{checked}
 use Rattle.diagram.specs.Laws.Checks.{variables-range}
 use Rattle.diagram.proofs.tables.check_table.Statement.{statement}
 use Rattle.diagram.proofs.tables.check_table.Tie as tie

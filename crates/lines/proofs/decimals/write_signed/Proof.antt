@@ -13,27 +13,27 @@ use borrow.Author.Needs.{needs}
 use Rattle.lines.proofs.decimals.write_signed.Statement.{statement}
 use Rattle.lines.proofs.decimals.write_signed.Tie as tie
 
-magnitude-requires : tie.Need-magnitude-requires
-magnitude-requires c κs = search needs
+unsigned-part-requires : tie.Need-unsigned-part-requires
+unsigned-part-requires c κs = search needs
 
-cast-magnitude : tie.Need-cast-magnitude
-cast-magnitude c = search needs
+cast-part : tie.Need-cast-part
+cast-part c = search needs
 
--- A negative number: a minus sign, and one more than its magnitude.
+-- A negative number: a minus sign, and one more than its unsigned part.
 module _ (c : tie.Then1) where
-  negative : decimal (c .before .before .before .args .number) ≡ 45 ∷ decimal (pos (c .before .magnitude .result + 1))
+  negative : decimal (c .before .before .before .args .number) ≡ 45 ∷ decimal (pos (c .before .unsigned-part .result + 1))
   negative =
       let back = toZ-ofZ (c .before .before .before .fits .number) in
       negative-decimal (c .before .before .before .args .number) (rw back at (c .if1 .taken))
-      ∙ ap (λ size. 45 ∷ decimal (pos (size + 1))) (sym (c .before .magnitude .ensures ∙ ap mag back))
+      ∙ ap (λ size. 45 ∷ decimal (pos (size + 1))) (sym (c .before .unsigned-part .ensures ∙ ap mag back))
 
--- Any other is its magnitude.
+-- Any other is its unsigned part.
 module _ (c : tie.Else1) where
-  other : decimal (c .before .before .before .args .number) ≡ decimal (pos (c .before .magnitude .result))
+  other : decimal (c .before .before .before .args .number) ≡ decimal (pos (c .before .unsigned-part .result))
   other =
       let back = toZ-ofZ (c .before .before .before .fits .number) in
       other-decimal (c .before .before .before .args .number) (rw back at (c .if1 .left))
-      ∙ ap (λ size. decimal (pos size)) (sym (c .before .magnitude .ensures ∙ ap mag back))
+      ∙ ap (λ size. decimal (pos size)) (sym (c .before .unsigned-part .ensures ∙ ap mag back))
 
 slice-write-text : tie.Need-slice-write-text
 slice-write-text c = let e = ap length (negative c) in let p = c .before .before .before .pre in omega arith
@@ -72,8 +72,8 @@ pub write-signed-spec : {M : Type 1} → statement M
 write-signed-spec =
     tie.close
     (tie.spec
-    magnitude-requires
-    cast-magnitude
+    unsigned-part-requires
+    cast-part
     slice-write-text
     add-write-number
     add-write-number-2

@@ -10,11 +10,11 @@ use Rattle.operands.specs.Laws.Digits.{negative-bytes, other-bytes}
 use Rattle.operands.proofs.writing.write_signed.Statement.{statement}
 use Rattle.operands.proofs.writing.write_signed.Tie as tie
 
-magnitude-requires : tie.Need-magnitude-requires
-magnitude-requires c κs = search needs
+unsigned-part-requires : tie.Need-unsigned-part-requires
+unsigned-part-requires c κs = search needs
 
-cast-magnitude : tie.Need-cast-magnitude
-cast-magnitude c = search needs
+cast-part : tie.Need-cast-part
+cast-part c = search needs
 
 sub-write-four : tie.Need-sub-write-four
 sub-write-four c = search needs
@@ -33,8 +33,8 @@ returns c =
     let t = c .before .before .before .before in
     let a = t .before .before .before .args in
     let back = toZ-ofZ (t .before .before .before .fits .number) in
-    let bits : bigEndian 4 (4294967295 - t .before .magnitude .result) ≡ signedBytes (a .number) =
-    (ap (λ m. bigEndian 4 (4294967295 - m)) (t .before .magnitude .ensures ∙ ap mag back) ∙ negative-bytes (a .number) (rw back at (t .if1 .taken))) in
+    let bits : bigEndian 4 (4294967295 - t .before .unsigned-part .result) ≡ signedBytes (a .number) =
+    (ap (λ m. bigEndian 4 (4294967295 - m)) (t .before .unsigned-part .ensures ∙ ap mag back) ∙ negative-bytes (a .number) (rw back at (t .if1 .taken))) in
     c .before .before .write-four .ensures ∙ ap (overwritten (a .buffer .now) (a .at)) bits
 
 same-length-2 : tie.Need-same-length-2
@@ -45,16 +45,16 @@ returns-2 c =
     let t = c .before .before .before .before in
     let a = t .before .before .before .args in
     let back = toZ-ofZ (t .before .before .before .fits .number) in
-    let bits : bigEndian 4 (t .before .magnitude .result) ≡ signedBytes (a .number) =
-    (ap (bigEndian 4) (t .before .magnitude .ensures ∙ ap mag back) ∙ other-bytes (a .number) (rw back at (t .if1 .left))) in
+    let bits : bigEndian 4 (t .before .unsigned-part .result) ≡ signedBytes (a .number) =
+    (ap (bigEndian 4) (t .before .unsigned-part .ensures ∙ ap mag back) ∙ other-bytes (a .number) (rw back at (t .if1 .left))) in
     c .before .before .write-four2 .ensures ∙ ap (overwritten (a .buffer .now) (a .at)) bits
 
 pub write-signed-spec : {M : Type 1} → statement M
 write-signed-spec =
     tie.close
     (tie.spec
-    magnitude-requires
-    cast-magnitude
+    unsigned-part-requires
+    cast-part
     sub-write-four
     write-four-requires
     write-four-requires-2

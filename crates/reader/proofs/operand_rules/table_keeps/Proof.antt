@@ -1,10 +1,9 @@
 -- `operand_rules::table_keeps` meets its contract. Assumes nothing.
 use mathlib.Core.Path.{sym, _∙_, ap}
-use lib.IntN.{pos, negℤ}
 use mir.Facts.{toZ-ofZ}
 use borrow.Author.Needs.{needs}
 use borrow.Author.Tests.{not-true, not-false}
-use Rattle.numbers.specs.Ranges.{isValue, within}
+use Rattle.numbers.specs.Ranges.{isValue}
 use Rattle.reader.proofs.operand_rules.table_keeps.Statement.{statement}
 use Rattle.reader.proofs.operand_rules.table_keeps.Tie as tie
 
@@ -14,15 +13,14 @@ is-variables-requires c κs = search needs
 returns : tie.Need-returns
 returns c = rw (sym (c .before .is-variables .ensures) ∙ not-true _ (c .if1 .taken))
 
-is-within-requires : tie.Need-is-within-requires
-is-within-requires c κs = search needs
+is-value-requires : tie.Need-is-value-requires
+is-value-requires c κs = search needs
 
 returns-2 : tie.Need-returns-2
-unfolding isValue
 returns-2 c =
     let s = c .before .before .before in
     rw (sym (c .before .before .is-variables .ensures) ∙ not-false _ (c .before .if1 .left))
-    (c .is-within .ensures ∙ ap (within (negℤ (pos 8388608)) (pos 8388607)) (toZ-ofZ (s .fits .offset)))
+    (c .is-value .ensures ∙ ap isValue (toZ-ofZ (s .fits .offset)))
 
 pub table-keeps-spec : {M : Type 1} → statement M
-table-keeps-spec = tie.close (tie.spec is-variables-requires returns is-within-requires returns-2)
+table-keeps-spec = tie.close (tie.spec is-variables-requires returns is-value-requires returns-2)

@@ -4,13 +4,13 @@ use mathlib.Core.Path.{sym, _∙_, ap}
 use mathlib.Core.Logic.{⊎-elim}
 use native.Mathlib.Omega.{arith}
 use lib.Pow.{pow-pos}
-use lib.IntN.{pos, negℤ}
+use lib.IntN.{pos}
 use mir.Syntax.{w32}
 use mir.Val.{ofZ}
 use mir.Facts.{toZ-ofZ, sfits-lit}
 use borrow.Author.Tests.{le-ltb}
 use borrow.Author.Needs.{needs}
-use Rattle.numbers.specs.Ranges.{mostVariables, isWeight, within}
+use Rattle.numbers.specs.Ranges.{mostVariables, isWeight}
 use Rattle.numbers.specs.Laws.Machine.{same-bits}
 use Rattle.numbers.specs.Laws.Pieces.{shifted-one}
 use Rattle.image.specs.Inner.Bounds.{WithinBounds}
@@ -43,17 +43,16 @@ returns-2 c =
     (rw (shifted-one (p .args .place .group) (narrow (p .args .place) (p .pre))) at (c .before .if2 .taken))
     (λ e. c .if3 .taken (ap (ofZ w32) e)))
 
-is-within-requires : tie.Need-is-within-requires
-is-within-requires c κs = search needs
+is-weight-requires : tie.Need-is-weight-requires
+is-weight-requires c κs = search needs
 
 returns-3 : tie.Need-returns-3
-unfolding isWeight
 returns-3 c =
     let p = c .before .before .before .before .before .before in
     let a = p .args in
     let size = shifted-one (a .place .group) (narrow (a .place) (p .pre)) in
-    c .is-within .ensures
-    ∙ ap (within (negℤ (pos 16777215)) (pos 16777215)) (toZ-ofZ (p .fits .weight))
+    c .is-weight .ensures
+    ∙ ap isWeight (toZ-ofZ (p .fits .weight))
     ∙ sym
     (word-decides (a .place) (a .class) (a .weight) (c .before .before .before .before .if1 .left)
     (λ e. ⊎-elim
@@ -62,4 +61,4 @@ returns-3 c =
     (c .before .if2 .came)))
 
 pub word-keeps-spec : {M : Type 1} → statement M
-word-keeps-spec = tie.close (tie.spec returns shl-if2 rem-if2 returns-2 is-within-requires returns-3)
+word-keeps-spec = tie.close (tie.spec returns shl-if2 rem-if2 returns-2 is-weight-requires returns-3)

@@ -4,7 +4,7 @@ use mathlib.Core.Bool.{true}
 use borrow.Author.Needs.{needs}
 use borrow.Author.Tests.{not-true, not-false, eq-eqb, ne-eqb}
 use Rattle.numbers.specs.Ranges.{isVariables}
-use Rattle.diagram.specs.Inner.Checks.{checked}
+use Rattle.numbers.specs.Inner.Checks.{checked}
 use Rattle.sums.specs.Sums.{ofWeights}
 use Rattle.sums.specs.Inner.Checks.{weightChecks}
 use Rattle.sums.proofs.weight_lists.check_weights.Statement.{statement}

@@ -8,14 +8,14 @@ use native.Mathlib.Numerals.{add-one}
 use native.Mathlib.Omega.{arith}
 use lib.ListN.{length, getD, take}
 use lib.Seq.{take-suc, take-length, length-take-le}
-use lib.IntN.{ℤ, pos, negℤ, _+ℤ_}
+use lib.IntN.{ℤ, pos, _+ℤ_}
 use lib.Signed.{mag, ltZ}
 use borrow.Author.Needs.{needs}
 use mir.Syntax.{w32}
 use mir.Val.{SFits, ofZ, toZ}
 use mir.Facts.{toZ-ofZ, fits-of-lt}
 use Rattle.numbers.specs.Lists.{every, keep, exactSum}
-use Rattle.numbers.specs.Ranges.{within, isValue}
+use Rattle.numbers.specs.Ranges.{isValue}
 use Rattle.numbers.specs.Laws.Bounds.{value-mag}
 use Rattle.numbers.specs.Laws.Lists.{every-at}
 use Rattle.numbers.specs.Laws.Machine.{mag-add}
@@ -133,11 +133,11 @@ loop-again c =
     })
     (c .if1 .came)
 
-is-within-requires : tie.Need-is-within-requires Inv-loop μ-loop
-is-within-requires c κs = search needs
+is-value-requires : tie.Need-is-value-requires Inv-loop μ-loop
+is-value-requires c κs = search needs
 
-is-within-requires-2 : tie.Need-is-within-requires-2 Inv-loop μ-loop
-is-within-requires-2 c κs = search needs
+is-value-requires-2 : tie.Need-is-value-requires-2 Inv-loop μ-loop
+is-value-requires-2 c κs = search needs
 
 -- All weights: both sums are judged.
 module _ (c : tie.After-loop Inv-loop μ-loop) where
@@ -153,16 +153,14 @@ module _ (c : tie.After-loop Inv-loop μ-loop) where
   greatest-is : toZ w32 (c .before .loop .greatest) ≡ greatestSum all
   greatest-is = c .before .loop .inv .high ∙ ap greatestSum whole
 
-judged : (c : tie.After-is-within Inv-loop μ-loop) → c .is-within .result ≡ isValue (leastSum (all (c .before)))
-unfolding isValue
-judged c = c .is-within .ensures ∙ ap (within (negℤ (pos 8388608)) (pos 8388607)) (least-is (c .before))
+judged : (c : tie.After-is-value Inv-loop μ-loop) → c .is-value .result ≡ isValue (leastSum (all (c .before)))
+judged c = c .is-value .ensures ∙ ap isValue (least-is (c .before))
 
 returns : tie.Need-returns Inv-loop μ-loop
-unfolding isValue
 returns c =
     let d = c .before .before in
-    c .is-within2 .ensures
-    ∙ ap (within (negℤ (pos 8388608)) (pos 8388607)) (greatest-is (d .before))
+    c .is-value2 .ensures
+    ∙ ap isValue (greatest-is (d .before))
     ∙ sym (values-by-extremes (all (d .before)) ∙ ap (λ b. b && isValue (greatestSum (all (d .before)))) (sym (judged d) ∙ c .before .if2 .taken))
 
 returns-2 : tie.Need-returns-2 Inv-loop μ-loop
@@ -184,7 +182,7 @@ sums-fit-spec =
     add-j
     loop-less
     loop-again
-    is-within-requires
-    is-within-requires-2
+    is-value-requires
+    is-value-requires-2
     returns
     returns-2)

@@ -2,7 +2,7 @@
 use Prim.Native.Nat.{_-_}
 use mathlib.Core.Path.{_≡_, sym, _∙_, ap}
 use native.Mathlib.Omega.{arith}
-use lib.IntN.{pos, negℤ}
+use lib.IntN.{pos}
 use mir.Facts.{toZ-ofZ}
 use borrow.Author.Needs.{needs, sfits-of}
 use borrow.Author.Tests.{not-true, not-false}
@@ -74,18 +74,18 @@ number-at-requires-4 : tie.Need-number-at-requires-4
 unfolding recordSize
 number-at-requires-4 c κs = (c .before .before .before .before .before .before .before .before .before .pre .1, omega arith)
 
-is-within-requires : tie.Need-is-within-requires
-is-within-requires c κs = search needs
+is-weight-requires : tie.Need-is-weight-requires
+is-weight-requires c κs = search needs
 
 returns-4 : tie.Need-returns-4
-unfolding weightAt isWeight
+unfolding weightAt
 returns-4 c =
     let b = c .before .before in
     let d = b .before .before .before in
     let e = d .before .before .before in
     let a = e .before .before .before .args in
-    c .is-within .ensures
-    ∙ ap (within (negℤ (pos 16777215)) (pos 16777215)) (toZ-ofZ (sfits-of (c .before .number-at4 .ok)) ∙ c .before .number-at4 .ensures)
+    c .is-weight .ensures
+    ∙ ap isWeight (toZ-ofZ (sfits-of (c .before .number-at4 .ok)) ∙ c .before .number-at4 .ensures)
     ∙ sym (weight-left (a .n) (a .records .now) (a .k) (sym (variable (e .before)) ∙ not-false _ (e .if1 .left)) (sym (low (d .before)) ∙ not-false _ (d .if2 .left)) (sym (high (b .before)) ∙ not-false _ (b .if3 .left)))
 
 pub edges-fit-spec : {M : Type 1} → statement M
@@ -102,5 +102,5 @@ edges-fit-spec =
     child-fits-requires-2
     returns-3
     number-at-requires-4
-    is-within-requires
+    is-weight-requires
     returns-4)

@@ -1,13 +1,13 @@
 -- `lists::check_list` meets its contract: the checks in their order. Assumes nothing.
 use mathlib.Core.Path.{_≡_, sym, _∙_, ap}
 use mathlib.Core.Bool.{true}
-use lib.IntN.{pos, negℤ}
 use mir.Facts.{toZ-ofZ}
 use borrow.Author.Needs.{needs}
 use borrow.Author.Tests.{not-true, not-false}
-use Rattle.numbers.specs.Ranges.{isVariables, isValue, within}
+use Rattle.numbers.specs.Ranges.{isVariables, isValue}
 use Rattle.diagram.specs.Walk.{listFits, ofList}
-use Rattle.diagram.specs.Inner.Checks.{listChecks, checked}
+use Rattle.diagram.specs.Inner.Checks.{listChecks}
+use Rattle.numbers.specs.Inner.Checks.{checked}
 use Rattle.walker.proofs.lists.check_list.Statement.{statement}
 use Rattle.walker.proofs.lists.check_list.Tie as tie
 
@@ -22,12 +22,11 @@ returns c = rw (sym (c .before .is-variables .ensures) ∙ not-true _ (c .if1 .t
 variables : (c : tie.Else1) → isVariables (c .before .before .args .n) ≡ true
 variables c = sym (c .before .is-variables .ensures) ∙ not-false _ (c .if1 .left)
 
-is-within-requires : tie.Need-is-within-requires
-is-within-requires c κs = search needs
+is-value-requires : tie.Need-is-value-requires
+is-value-requires c κs = search needs
 
-in-range : (c : tie.After-is-within) → isValue (c .before .before .before .args .offset) ≡ c .is-within .result
-unfolding isValue
-in-range c = sym (c .is-within .ensures ∙ ap (within (negℤ (pos 8388608)) (pos 8388607)) (toZ-ofZ (c .before .before .before .fits .offset)))
+in-range : (c : tie.After-is-value) → isValue (c .before .before .before .args .offset) ≡ c .is-value .result
+in-range c = sym (c .is-value .ensures ∙ ap isValue (toZ-ofZ (c .before .before .before .fits .offset)))
 
 returns-2 : tie.Need-returns-2
 unfolding listChecks ofList checked
@@ -67,7 +66,7 @@ check-list-spec =
     (tie.spec
     is-variables-requires
     returns
-    is-within-requires
+    is-value-requires
     returns-2
     list-fits-requires
     returns-3

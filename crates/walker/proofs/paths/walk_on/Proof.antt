@@ -9,13 +9,13 @@ use mir.Val.{SFits, ofZ, toZ}
 use mir.Facts.{toZ-ofZ, fits-of-lt}
 use borrow.Author.Needs.{sfits-of}
 use Rattle.diagram.specs.Inner.Edges.{edgeAt, descend, PathReady}
-use Rattle.diagram.specs.declared.Reached.{Reached}
+use Rattle.diagram.specs.declared.Waypoint.{Waypoint}
 use Rattle.diagram.specs.Laws.Edges.{further, descend-more, descend-none, ready-further}
 use Rattle.walker.proofs.paths.walk_on.Statement.{statement}
 use Rattle.walker.proofs.paths.walk_on.Tie as tie
 
 -- On the way: what is reached leads to the end that is due.
-record OnTheWay (list : List ℤ) (low left x : ℕ) (reached due : Reached) : Type 0 where
+record OnTheWay (list : List ℤ) (low left x : ℕ) (reached due : Waypoint) : Type 0 where
   ready : PathReady list low left reached
   leads : descend list low left x reached ≡ due
 
@@ -48,7 +48,7 @@ module _ (c : tie.After-struct-told2 Inv-loop μ-loop) where
   abbrev begun : tie.Start Inv-loop μ-loop
   begun = c .before .before .before .before .before .before
 
-  abbrev at : Reached
+  abbrev at : Waypoint
   at = record { value = toZ w32 (c .before .before .before .before .loop .value); node = c .before .before .before .before .loop .node }
 
   abbrev left : ℕ
@@ -90,7 +90,7 @@ loop-less c = let l = c .before .before .before .loop-test .taken in omega arith
 loop-again : tie.Need-loop-again Inv-loop μ-loop
 loop-again c =
     let x = begun c .args .x in
-    let reached : _≡_ {A = Reached} (record { value = toZ w32 (ofZ w32 (toZ w32 (c .before .before .before .before .loop .value) +ℤ toZ w32 (ofZ w32 (c .before .before .edge-at .result .weight)))); node = c .before .before .edge-at .result .node }) (further (list c) (low c + left c) x (at c))
+    let reached : _≡_ {A = Waypoint} (record { value = toZ w32 (ofZ w32 (toZ w32 (c .before .before .before .before .loop .value) +ℤ toZ w32 (ofZ w32 (c .before .before .edge-at .result .weight)))); node = c .before .before .edge-at .result .node }) (further (list c) (low c + left c) x (at c))
     = ap₂ (λ v k. record { value = v; node = k }) (ap (λ z. toZ w32 (ofZ w32 z)) (sum-is c) ∙ toZ-ofZ (sum-fits c)) (ap (λ e. e .node) (edge-is c)) in
     record {
       ready = subst (PathReady (list c) (low c) (left c)) (sym reached) (next c);
@@ -105,7 +105,7 @@ returns : tie.Need-returns Inv-loop μ-loop
 returns c =
     let a = c .before .before .before .args in
     let l = c .before .loop in
-    let here : Reached = record { value = toZ w32 (l .value); node = l .node } in
+    let here : Waypoint = record { value = toZ w32 (l .value); node = l .node } in
     sym (descend-none (a .records .now) (a .low) (a .x) here)
     ∙ ap (λ k. descend (a .records .now) (a .low) k (a .x) here) (let h = c .loop-test .left in let z : 0 ≡ l .left = omega arith in z)
     ∙ l .inv .leads

@@ -12,13 +12,13 @@ use borrow.Author.Tests.{ltb-true, ltb-false}
 use Rattle.numbers.specs.Lists.{every, keep, tally}
 use Rattle.numbers.specs.Laws.Bools.{yes-or-no, and-both}
 use Rattle.decimal.specs.Words.{isSome, words, lastLine}
-use Rattle.decimal.specs.declared.Place.{Place}
-use Rattle.decimal.specs.Inner.Places.{isSeparator, lineAfter, wordsFrom, wordsAt, newlines, PlaceIn, skippedFrom, skipped, wordLength}
+use Rattle.decimal.specs.declared.Position.{Position}
+use Rattle.decimal.specs.Inner.Positions.{isSeparator, lineAfter, wordsFrom, wordsAt, newlines, PositionIn, skippedFrom, skipped, wordLength}
 use Rattle.decimal.specs.Inner.Items.{wordThere, wordBehind}
 use Rattle.decimal.specs.Laws.Words.{within-word, line-after-other, isInner, stops, last-line, newlines-few, newline-counted, separator-passed, no-words, word-first}
 
 -- The text's start, on line 1.
-pub start-place : (text : List ℕ) → PlaceIn text (record { at = 0; line = 1 })
+pub start-place : (text : List ℕ) → PositionIn text (record { at = 0; line = 1 })
 start-place text = record { inside = omega arith; counted = (let l = last-line text in omega arith) }
 
 -- The words from there on are those of the text.
@@ -27,7 +27,7 @@ unfolding wordsAt wordsFrom words
 start-words text = refl
 
 -- A line is at most one more than there are bytes.
-pub line-small : {text : List ℕ} {place : Place} → PlaceIn text place → place .line ≤ suc (length text)
+pub line-small : {text : List ℕ} {place : Position} → PositionIn text place → place .line ≤ suc (length text)
 line-small {text} p = let c = p .counted in let l = last-line text in let f = newlines-few text in omega arith
 
 -- ---- past a separator
@@ -37,11 +37,11 @@ pub byte-there : (text : List ℕ) (at : ℕ) → at < length text → drop at t
 byte-there text at l = drop-cons text at 0 l ∙ ap (λ k. getD text at 0 ∷ drop k text) (sym (add-one at))
 
 -- The place behind the byte at a place.
-unfoldable pub stepped : List ℕ → Place → Place
+unfoldable pub stepped : List ℕ → Position → Position
 stepped text place = record { at = place .at + 1; line = lineAfter (getD text (place .at) 0) (place .line) }
 
-module _ {text : List ℕ} {place : Place} (p : PlaceIn text place) (l : place .at < length text) where
-  step-place : PlaceIn text (stepped text place)
+module _ {text : List ℕ} {place : Position} (p : PositionIn text place) (l : place .at < length text) where
+  step-place : PositionIn text (stepped text place)
   unfolding stepped
   step-place =
       let byte = getD text (place .at) 0 in
@@ -67,38 +67,38 @@ module _ {text : List ℕ} {place : Place} (p : PlaceIn text place) (l : place .
   skip-stops e = ap (λ rest. skippedFrom rest (place .at) (place .line)) (byte-there text (place .at) l) ∙ rw (e, skippedFrom)
 
 -- So does the end.
-pub skip-ends : (text : List ℕ) (place : Place) → length text ≤ place .at → skipped text place ≡ place
+pub skip-ends : (text : List ℕ) (place : Position) → length text ≤ place .at → skipped text place ≡ place
 unfolding skipped skippedFrom
 skip-ends text place l = ap (λ rest. skippedFrom rest (place .at) (place .line)) (drop-of-length-le text l)
 
 -- The place so far leads past the same separators.
-pub record Skipping (text : List ℕ) (place place′ : Place) : Type 0 where
-  pub placed : PlaceIn text place′
+pub record Skipping (text : List ℕ) (place place′ : Position) : Type 0 where
+  pub placed : PositionIn text place′
   pub same : skipped text place′ ≡ skipped text place
 
-pub skipping-on : {text : List ℕ} {place place′ : Place} → place′ .at < length text → isSeparator (getD text (place′ .at) 0) ≡ true → Skipping text place place′ → Skipping text place (stepped text place′)
+pub skipping-on : {text : List ℕ} {place place′ : Position} → place′ .at < length text → isSeparator (getD text (place′ .at) 0) ≡ true → Skipping text place place′ → Skipping text place (stepped text place′)
 skipping-on l e s = record { placed = step-place (s .placed) l; same = step-skipped (s .placed) l e ∙ s .same }
 
 -- ---- past all separators
 
 -- What a place past the separators has: the same words, and no separator there.
-pub record Skipped (text : List ℕ) (place place′ : Place) : Type 0 where
-  pub placed : PlaceIn text place′
+pub record Skipped (text : List ℕ) (place place′ : Position) : Type 0 where
+  pub placed : PositionIn text place′
   pub same : wordsAt text place′ ≡ wordsAt text place
   pub further : place .at ≤ place′ .at
   pub stopped : place′ .at < length text → isSeparator (getD text (place′ .at) 0) ≡ false
 
-pub skipped-is : {text : List ℕ} {place : Place} → PlaceIn text place → Skipped text place (skipped text place)
+pub skipped-is : {text : List ℕ} {place : Position} → PositionIn text place → Skipped text place (skipped text place)
 unfolding stepped
 skipped-is {text} {place} p = by-left (length text) place p (omega arith)
   where
-    here : {place : Place} → PlaceIn text place → (place .at < length text → isSeparator (getD text (place .at) 0) ≡ false) → Skipped text place place
+    here : {place : Position} → PositionIn text place → (place .at < length text → isSeparator (getD text (place .at) 0) ≡ false) → Skipped text place place
     here p stop = record { placed = p; same = refl; further = omega arith; stopped = stop }
 
-    on : {place : Place} → wordsAt text (stepped text place) ≡ wordsAt text place → Skipped text (stepped text place) (skipped text (stepped text place)) → Skipped text place (skipped text (stepped text place))
+    on : {place : Position} → wordsAt text (stepped text place) ≡ wordsAt text place → Skipped text (stepped text place) (skipped text (stepped text place)) → Skipped text place (skipped text (stepped text place))
     on e s = record { placed = s .placed; same = s .same ∙ e; further = (let f = s .further in omega arith); stopped = s .stopped }
 
-    by-left : (left : ℕ) (place : Place) → PlaceIn text place → length text ≤ place .at + left → Skipped text place (skipped text place)
+    by-left : (left : ℕ) (place : Position) → PositionIn text place → length text ≤ place .at + left → Skipped text place (skipped text place)
     by-left zero place p l = rw (skip-ends text place (omega arith)) (here p (λ more. absurd (omega arith)))
     by-left (suc left) place p l =
         yes-or-no (ltb (place .at) (length text))
@@ -110,12 +110,12 @@ skipped-is {text} {place} p = by-left (length text) place p (omega arith)
         (λ m. let none = ltb-false (place .at) (length text) m in rw (skip-ends text place none) (here p (λ more. absurd (omega arith))))
 
 -- At the end there are no more words.
-pub ended-words : (text : List ℕ) (place : Place) → length text ≤ place .at → wordsAt text place ≡ []
+pub ended-words : (text : List ℕ) (place : Position) → length text ≤ place .at → wordsAt text place ≡ []
 unfolding wordsAt
 ended-words text place l = ap (wordsFrom (place .line)) (drop-of-length-le text l) ∙ no-words (place .line)
 
 -- And the line is the last.
-pub ended-line : {text : List ℕ} {place : Place} → PlaceIn text place → length text ≤ place .at → place .line ≡ lastLine text
+pub ended-line : {text : List ℕ} {place : Position} → PositionIn text place → length text ≤ place .at → place .line ≡ lastLine text
 unfolding newlines tally keep
 ended-line {text} {place} p l = let c = p .counted in let n : newlines (drop (place .at) text) ≡ 0 = ap newlines (drop-of-length-le text l) in omega arith
 
@@ -172,12 +172,12 @@ pub word-fits : (text : List ℕ) (at : ℕ) → at < length text → at + wordL
 word-fits text at l = let f = run-is (drop at text) .few in let w = length-drop at text in omega arith
 
 -- Where there is a word its bytes are in front of the words behind it.
-pub record WordFirst (text : List ℕ) (place : Place) : Type 0 where
-  pub placed : PlaceIn text (wordBehind text place)
+pub record WordFirst (text : List ℕ) (place : Position) : Type 0 where
+  pub placed : PositionIn text (wordBehind text place)
   pub further : place .at < wordBehind text place .at
   pub first : wordsAt text place ≡ record { line = place .line; bytes = wordThere text place } ∷ wordsAt text (wordBehind text place)
 
-pub word-is : {text : List ℕ} {place : Place} → PlaceIn text place → place .at < length text → isSeparator (getD text (place .at) 0) ≡ false → WordFirst text place
+pub word-is : {text : List ℕ} {place : Position} → PositionIn text place → place .at < length text → isSeparator (getD text (place .at) 0) ≡ false → WordFirst text place
 unfolding wordBehind wordThere wordsAt isSome
 word-is {text} {place} p l e =
     let rest = drop (place .at) text in
@@ -201,9 +201,9 @@ word-is {text} {place} p l e =
 
 -- ---- past the separators there is the end or the first word
 
-pub skipped-none : {text : List ℕ} {place : Place} → PlaceIn text place → length text ≤ skipped text place .at → wordsAt text place ≡ []
+pub skipped-none : {text : List ℕ} {place : Position} → PositionIn text place → length text ≤ skipped text place .at → wordsAt text place ≡ []
 skipped-none {text} {place} p l = sym (skipped-is p .same) ∙ ended-words text (skipped text place) l
 
-pub skipped-word : {text : List ℕ} {place : Place} → PlaceIn text place → skipped text place .at < length text
+pub skipped-word : {text : List ℕ} {place : Position} → PositionIn text place → skipped text place .at < length text
     → wordsAt text place ≡ record { line = skipped text place .line; bytes = wordThere text (skipped text place) } ∷ wordsAt text (wordBehind text (skipped text place))
 skipped-word p l = let s = skipped-is p in sym (s .same) ∙ word-is (s .placed) l (s .stopped l) .first

@@ -7,7 +7,7 @@ use lib.ListN.{length, drop}
 use Rattle.numbers.specs.Lists.{tally}
 use Rattle.lines.specs.Reading.{pieces}
 use Rattle.decimal.specs.Words.{isNewline, isBlank, Word, linesWords, lastLine}
-use Rattle.decimal.specs.declared.Place.{Place}
+use Rattle.decimal.specs.declared.Position.{Position}
 
 -- A byte between words.
 unfoldable pub isSeparator : ℕ → Bool
@@ -22,23 +22,23 @@ unfoldable pub wordsFrom : ℕ → List ℕ → List Word
 wordsFrom line text = linesWords line (pieces isNewline text)
 
 -- The words from a place on.
-unfoldable pub wordsAt : List ℕ → Place → List Word
+unfoldable pub wordsAt : List ℕ → Position → List Word
 wordsAt text place = wordsFrom (place .line) (drop (place .at) text)
 
 unfoldable pub newlines : List ℕ → ℕ
 newlines text = tally isNewline text
 
 -- A place in the text, whose line is right: with the newlines that are left it leads to the last line.
-pub record PlaceIn (text : List ℕ) (place : Place) : Type 0 where
+pub record PositionIn (text : List ℕ) (place : Position) : Type 0 where
   pub inside : place .at ≤ length text
   pub counted : place .line + newlines (drop (place .at) text) ≡ lastLine text
 
 -- Past the separators in front, from a place on.
-unfoldable pub skippedFrom : List ℕ → ℕ → ℕ → Place
+unfoldable pub skippedFrom : List ℕ → ℕ → ℕ → Position
 skippedFrom [] at line = record { at = at; line = line }
 skippedFrom (byte ∷ rest) at line = elim (isSeparator byte) [ true ↦ skippedFrom rest (suc at) (lineAfter byte line) | false ↦ record { at = at; line = line } ]
 
-unfoldable pub skipped : List ℕ → Place → Place
+unfoldable pub skipped : List ℕ → Position → Position
 skipped text place = skippedFrom (drop (place .at) text) (place .at) (place .line)
 
 -- How many bytes in front are no separators.

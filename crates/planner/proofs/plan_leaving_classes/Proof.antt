@@ -1,16 +1,16 @@
--- `planner::plan_in` meets its contract. Assumes nothing.
+-- `planner::plan_leaving_classes` meets its contract. Assumes nothing.
 use mathlib.Core.Path.{sym, _∙_, ap, subst⁻¹}
 use borrow.Author.Needs.{needs}
 use borrow.Author.Tests.{not-true, not-false}
 use Rattle.diagram.specs.Accepted.{Accepted}
-use Rattle.diagram.specs.Inner.Checks.{checked}
+use Rattle.numbers.specs.Inner.Checks.{checked}
 use Rattle.diagram.specs.Laws.Builds.{passed-table}
 use Rattle.cascade.specs.Plan.{Plans}
 use Rattle.cascade.specs.declared.Planned.{Planned}
 use Rattle.planner.specs.Laws.Plans.{refused-plans, plan-unfit, plan-limited}
 use Rattle.planner.specs.Laws.Rows.{rows-filled, rows-kept, classed, unclassed}
-use Rattle.planner.proofs.plan_in.Statement.{statement}
-use Rattle.planner.proofs.plan_in.Tie as tie
+use Rattle.planner.proofs.plan_leaving_classes.Statement.{statement}
+use Rattle.planner.proofs.plan_leaving_classes.Tie as tie
 
 check-table-requires : tie.Need-check-table-requires
 check-table-requires c κs = search needs
@@ -85,8 +85,8 @@ returns-3 c =
       rows-filled (s .args .n) (s .args .table .now) (s .args .limit) (classed (s .args .n) (s .args .table .now) (s .args .limit) (passed (l .before)) ∙ sym (l .is-limit .ensures) ∙ not-false _ (e .if1 .left)) (k .plan-rows .ensures .1),
     )
 
-pub plan-in-spec : {M : Type 1} → statement M
-plan-in-spec =
+pub plan-leaving-classes-spec : {M : Type 1} → statement M
+plan-leaving-classes-spec =
     tie.close
     (tie.spec
     check-table-requires

@@ -1,16 +1,16 @@
--- Laws.
+-- What is proved of the definitions of this crate; a file stands behind those whose laws it cites.
 pub mod Blocks
-pub mod Classes
 pub mod Commonest
-pub mod Comparing
 pub mod Counting
-pub mod Cuts
 pub mod Differences
-pub mod Known
-pub mod Latest
 pub mod Order
-pub mod Places
 pub mod Same
+pub mod Comparing
+pub mod Known
+pub mod Classes
+pub mod Cuts
+pub mod Latest
+pub mod Places
 pub mod Searching
 pub mod TryRows
 pub mod UseRows

@@ -1,13 +1,13 @@
--- Laws.
+-- What is proved of the definitions of this crate; a file stands behind those whose laws it cites.
 pub mod Admitting
-pub mod Cards
-pub mod Cells
+pub mod Groupings
 pub mod Cheapest
 pub mod Chosen
-pub mod Groupings
+pub mod Rows
+pub mod Words
+pub mod Cards
+pub mod Cells
 pub mod Lengths
 pub mod Planned
-pub mod Rows
 pub mod WellFormed
 pub mod WordReading
-pub mod Words

@@ -1,7 +1,7 @@
--- cases.
-pub mod Tallies
+-- When a case of the test program passes: what its rows and lines hold, the count, then by operation.
 pub mod Rows
 pub mod Text
+pub mod Tallies
 pub mod DiagramCases
 pub mod ReportCases
 pub mod ImageCases
@@ -9,4 +9,5 @@ pub mod PairCases
 pub mod CascadeCases
 pub mod ReachCases
 pub mod SumCases
+-- What is proved of all that, which proofs cite.
 pub mod Laws

@@ -1,5 +1,4 @@
--- Laws.
-pub mod Cells
+-- What is proved of the definitions of this crate; a file stands behind those whose laws it cites.
 pub mod Commands
 pub mod Compiles
 pub mod Counting
@@ -8,3 +7,4 @@ pub mod Measuring
 pub mod Planned
 pub mod Ready
 pub mod Words
+pub mod Cells

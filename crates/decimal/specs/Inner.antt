@@ -1,5 +1,5 @@
--- Inner.
-pub mod Items
+-- What inner functions promise and hold; a file stands behind those that it names.
 pub mod Numbers
 pub mod Positions
+pub mod Items
 pub mod Values

@@ -1,7 +1,7 @@
--- Laws.
-pub mod Cascade
+-- What is proved of the definitions of this crate; a file stands behind those whose laws it cites.
 pub mod Checks
 pub mod Clients
-pub mod Diagram
-pub mod Image
 pub mod Tests
+pub mod Diagram
+pub mod Cascade
+pub mod Image

@@ -1,7 +1,9 @@
--- demands.
-pub mod Admitted
+-- What the whole is trusted for: orders of checks, what the paper admits, the demands sentence by sentence, the checked list, and what clients of
+-- the operations know.
 pub mod Checks
-pub mod CheckedList
+pub mod Admitted
 pub mod Demands
+pub mod CheckedList
 pub mod Clients
+-- What is proved of all that, which proofs cite.
 pub mod Laws

@@ -1,19 +1,19 @@
--- Laws.
-pub mod Bounds
-pub mod Cards
-pub mod Coming
+-- What is proved of the definitions of this crate; a file stands behind those whose laws it cites.
 pub mod CommandBytes
 pub mod Due
+pub mod Rules
+pub mod Bounds
+pub mod Steps
+pub mod Reading
+pub mod Standing
+pub mod Coming
+pub mod Cards
+pub mod Images
 pub mod Evaluating
 pub mod Held
-pub mod Images
 pub mod OtherWidths
-pub mod Reading
-pub mod ReadingFor
-pub mod Refusals
-pub mod Rules
 pub mod Running
-pub mod Standing
-pub mod Steps
 pub mod Words
+pub mod Refusals
+pub mod ReadingFor
 pub mod Written

@@ -1,3 +1,3 @@
--- Inner.
+-- What inner functions promise and hold; a file stands behind those that it names.
 pub mod Digits
 pub mod Writing

@@ -1,6 +1,6 @@
 // The listing program: reads standard input to its end and writes the listing of the table in it to standard output.
 ghost use Rattle.stdin.specs.Input.{Keeps};
-ghost use Rattle.listing.specs.Input.{keptBytes};
+ghost use Rattle.listing.specs.Kept.{keptBytes};
 use libc::STDERR_FILENO;
 use libc::STDOUT_FILENO;
 use listing::TEXT_ROOM;

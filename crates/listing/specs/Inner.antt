@@ -1,4 +1,4 @@
--- Inner.
+-- What inner functions promise and hold; a file stands behind those that it names.
 pub mod CellLines
 pub mod Listed
 pub mod NodeLines

@@ -1,9 +1,9 @@
--- Laws.
+-- What is proved of the definitions of this crate; a file stands behind those whose laws it cites.
 pub mod Apart
-pub mod Inputs
 pub mod Kept
-pub mod Lengths
 pub mod Listed
 pub mod Shown
+pub mod Lengths
 pub mod Texts
 pub mod Values
+pub mod Inputs

@@ -13,7 +13,7 @@ ghost use Rattle.listing.specs.Listing.{tableOf, answerText, listing};
 ghost use Rattle.listing.specs.Program.{textRoom, Lists};
 ghost use Rattle.listing.specs.Inner.Listed.{InputCounted};
 ghost use Rattle.lines.specs.Inner.Writing.{Writes};
-ghost use Rattle.listing.specs.Text.{ListsKept};
+ghost use Rattle.listing.specs.Kept.{ListsKept};
 
 // The most variables of a table that is listed, and the values of such a table.
 pub(crate) const MOST_LISTED: usize = 11;

@@ -1,10 +1,7 @@
--- Laws.
+-- What is proved of the definitions of this crate; a file stands behind those whose laws it cites.
 pub mod Answers
-pub mod BitLength
 pub mod Bools
 pub mod Bounds
-pub mod Extremal
-pub mod Extremes
 pub mod Integers
 pub mod Least
 pub mod Lists
@@ -14,10 +11,13 @@ pub mod Overwriting
 pub mod Padding
 pub mod Pieces
 pub mod Powers
+pub mod Selections
 pub mod Rows
 pub mod Runs
-pub mod Selections
 pub mod Sums
 pub mod Tallies
 pub mod Widths
+pub mod BitLength
+pub mod Extremes
+pub mod Extremal
 pub mod Written

@@ -1,5 +1,5 @@
--- Inner.
+-- What inner functions promise and hold; a file stands behind those that it names.
 pub mod Checks
-pub mod Counts
 pub mod NarrowCells
 pub mod Narrowest
+pub mod Counts

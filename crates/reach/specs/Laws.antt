@@ -1,10 +1,10 @@
--- Laws.
+-- What is proved of the definitions of this crate; a file stands behind those whose laws it cites.
 pub mod Answers
-pub mod Beside
 pub mod Checks
 pub mod Counts
 pub mod NarrowCells
 pub mod Narrowest
 pub mod Rails
 pub mod Reached
+pub mod Beside
 pub mod Reaching

@@ -2,7 +2,7 @@
 use mathlib.Core.Path.{_∙_, subst}
 use borrow.Author.Needs.{needs}
 use Rattle.stdin.specs.Input.{KeptWithin}
-use Rattle.listing.specs.Input.{keptBytes}
+use Rattle.listing.specs.Kept.{keptBytes}
 use Rattle.list.proofs.read_input.Statement.{statement}
 use Rattle.list.proofs.read_input.Tie as tie
 

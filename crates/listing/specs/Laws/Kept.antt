@@ -12,8 +12,8 @@ use Rattle.listing.specs.Program.{textRoom, listAnswer, listBuffer, List
 use Rattle.listing.specs.Theorems.{bytes-beyond}
 use Rattle.listing.specs.declared.Listed.{Listed}
 use Rattle.listing.specs.declared.Listed.the-variants.{Text, TooShort}
-use Rattle.listing.specs.Input.{keptBytes}
-use Rattle.listing.specs.Text.{ListsKept}
+use Rattle.listing.specs.Kept.{keptBytes}
+use Rattle.listing.specs.Kept.{ListsKept}
 
 -- The length of an answered text.
 textLength : Listed → ℕ

@@ -19,7 +19,7 @@ use Rattle.blocks.specs.Inner.Layout.{cutPlace}
 use Rattle.blocks.specs.Laws.Classes.{class-below, class-used, one-class-at-top, one-class-at-bottom}
 use Rattle.blocks.specs.Laws.Places.{row-at}
 use Rattle.blocks.specs.Uses.{useCount, usesAt, classesAt, cutUses, useCounts, commonest, commonestAt}
-use Rattle.blocks.specs.declared.uses.Common.{Common}
+use Rattle.blocks.specs.declared.Common.{Common}
 use Rattle.blocks.specs.Inner.UseRows.{cutUseRow, allUses, allUseRows}
 use Rattle.blocks.specs.Laws.Commonest.{commonest-leads, leading-is}
 use Rattle.blocks.specs.Laws.Counting.{uses-include, unused, uses-sum}

@@ -7,7 +7,7 @@ use lib.IntN.{ℤ}
 use Rattle.numbers.specs.Lists.{numbersFrom, tally, least}
 use Rattle.blocks.specs.Blocks.{blocks}
 use Rattle.blocks.specs.Classes.{classCount, classOf}
-use Rattle.blocks.specs.declared.uses.Common.{Common}
+use Rattle.blocks.specs.declared.Common.{Common}
 
 -- How many blocks have this class, the blocks given by their classes.
 unfoldable pub useCount : List ℕ → ℕ → ℕ

@@ -8,7 +8,7 @@ use Rattle.numbers.specs.Ranges.{eqZ}
 use Rattle.blocks.specs.Blocks.{block, blocks, first, differences}
 use Rattle.blocks.specs.Classes.{same, numberIn, learn, learnAll, distinct, classes, classCount, classOf}
 use Rattle.blocks.specs.Uses.{useCount, usesAt, usesOf, classesAt, cutUses, useCounts, mostUses, commonest, commonestAt}
-use Rattle.blocks.specs.declared.uses.Common.{Common}
+use Rattle.blocks.specs.declared.Common.{Common}
 
 -- A cut of a table: the uses so far of each of its blocks, the use count of each of its classes, and the commonest of them.
 record Worked : Type 0 where

@@ -1,17 +1,24 @@
-// Blocks of a table and their classes: what they are, and where they stand in a row of all cuts.
+// Blocks of a table and their classes: what they are, how blocks are compared, how many classes a search tries, how many blocks use a
+// class, and where all that stands in rows of all cuts.
 pub mod comparing;
-pub mod uses;
-
-// The cuts of the largest table, and the places that the blocks of all its cuts have in a row.
-pub const ALL_CUTS: usize = numbers::MOST_VARIABLES + 1;
-
-pub const ALL_PLACES: usize = 2 * numbers::MOST_VALUES - 1;
 
 ghost use mathlib.Core.Path.{_≡_};
 ghost use Prim.Native.Nat.{_+_, _*_, _^_, _<_};
 ghost use lib.ListN.{length, getD};
 ghost use Rattle.blocks.specs.Blocks.{block, first};
 ghost use Rattle.blocks.specs.Inner.Layout.{cutPlace};
+
+// The cuts of the largest table.
+pub const ALL_CUTS: usize = numbers::MOST_VARIABLES + 1;
+
+// The places that the blocks of all its cuts have in a row.
+pub const ALL_PLACES: usize = 2 * numbers::MOST_VALUES - 1;
+
+// A class and how many blocks have it.
+pub struct Common {
+    pub class: usize,
+    pub uses: usize,
+}
 
 // The first of some values, or 0 where there is none.
 pub fn first_value(values: &[i32]) -> i32

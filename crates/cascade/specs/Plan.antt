@@ -8,7 +8,7 @@ use Rattle.numbers.specs.Answers.{Answer, accepted, refused, unless, mapAnswer}
 use Rattle.numbers.specs.Lists.{padded}
 use Rattle.numbers.specs.Ranges.{isLimit, mostVariables}
 use Rattle.blocks.specs.Uses.{commonestAt}
-use Rattle.blocks.specs.declared.uses.Common.{Common}
+use Rattle.blocks.specs.declared.Common.{Common}
 use Rattle.diagram.specs.Build.{ofTable}
 use Rattle.image.specs.Cells.{Cell, bitsOf, totalBits}
 use Rattle.cascade.specs.Cascade.{cellOf, cellsFrom}

@@ -4,9 +4,10 @@ ghost use mathlib.Core.List.{flatMap};
 ghost use Rattle.cascade.specs.Rows.{cellRow};
 use crate::Cell;
 
-// The numbers of a cell in a row, and of a row of all cells that a grouping can have.
+// The numbers of a cell in a row.
 pub const CELL_NUMBERS: usize = 7;
 
+// The numbers of a row of all cells that a grouping can have.
 pub const ROW_NUMBERS: usize = CELL_NUMBERS * crate::MOST_CELLS;
 
 // Seven numbers for each cell: group, incoming count, outgoing count, weight width, bits, commonest outgoing class, its uses.

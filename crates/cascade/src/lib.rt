@@ -1,4 +1,4 @@
-// Groupings of a table's variables, the cells of their cascade, and what Plan and Compile answer.
+// The cascade: groupings of a table's variables, their cells and words, and what Plan and Compile answer.
 pub mod cell_rows;
 pub mod words;
 

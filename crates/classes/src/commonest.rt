@@ -5,7 +5,7 @@ ghost use lib.ListN.{length};
 ghost use Rattle.blocks.specs.Inner.Layout.{cutPlace};
 ghost use Rattle.blocks.specs.Uses.{commonest};
 ghost use Rattle.blocks.specs.Inner.UseRows.{inCut};
-use blocks::uses::Common;
+use blocks::Common;
 
 // The class with the greatest use count, the smallest number on a tie; class 0 with 0 where there is none.
 pub fn commonest(use_counts: &[usize]) -> Common

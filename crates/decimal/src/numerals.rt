@@ -7,6 +7,7 @@ ghost use Rattle.decimal.specs.Inner.Numbers.{largestSize, smallNumber, 
 use crate::Digits;
 use crate::Number;
 
+// Whether a byte is a decimal digit.
 fn is_digit(byte: usize) -> bool
     ensures { λ r. ⌜ r ≡ isDigit byte ⌝ }
 {

@@ -9,6 +9,7 @@ use crate::Item;
 use crate::Number;
 use crate::Position;
 
+// Whether a byte is a space or a tab.
 fn is_blank(byte: u8) -> bool
     ensures { λ r. ⌜ r ≡ isBlank byte ⌝ }
 {
@@ -21,6 +22,7 @@ fn is_blank(byte: u8) -> bool
     byte == b'\r'
 }
 
+// Whether a byte parts words: a blank, or the end of a line.
 fn is_separator(byte: u8) -> bool
     ensures { λ r. ⌜ r ≡ isSeparator byte ⌝ }
 {

@@ -1,4 +1,5 @@
-// The reduced edge-valued decision diagram of a table: its definitions, the checks on a table, and what its nodes are made of.
+// The reduced edge-valued decision diagram of a table: its definitions, what Build and Walk answer, the checks on a table, and the
+// layout of a record in a buffer.
 pub mod records;
 pub mod tables;
 

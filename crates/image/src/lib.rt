@@ -1,16 +1,20 @@
-// The card image: its commands, the places that reading reaches, and the rules of its commands. It knows nothing of tables.
+// The card image: its commands and their sizes, the places that reading reaches, what Run and Expand answer, and the laws of all that.
+// It knows nothing of tables.
 
 ghost use mathlib.Core.Path.{_≡_};
 ghost use Rattle.numbers.specs.Widths.{cellBits};
 ghost use Rattle.image.specs.Inner.Bounds.{CellFits};
 
-// The bytes that each command takes, its operands included.
+// The bytes of 0x56 with its operands.
 pub const TABLE_SIZE: usize = 6;
 
+// The bytes of 0x43 with its operands.
 pub const CELL_SIZE: usize = 7;
 
+// The bytes of 0x57 with its operands.
 pub const WORD_SIZE: usize = 7;
 
+// The bytes of 0x45 with its operand.
 pub const END_SIZE: usize = 5;
 
 // The most classes that a cut has: those of single values, were all of them different.

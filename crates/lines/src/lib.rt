@@ -1,3 +1,3 @@
-// Lines of text and decimal numbers: what they are, and numbers written in decimal.
+// Lines of text and numbers in decimal: what they are, how they are written into a buffer, and how they are read back.
 mod decimals;
 pub mod fields;

@@ -15,9 +15,10 @@ ghost use Rattle.listing.specs.Inner.Listed.{InputCounted};
 ghost use Rattle.lines.specs.Inner.Writing.{Writes};
 ghost use Rattle.listing.specs.Kept.{ListsKept};
 
-// The most variables of a table that is listed, and the values of such a table.
+// The most variables of a table that is listed.
 pub(crate) const MOST_LISTED: usize = 11;
 
+// The values of such a table.
 pub(crate) const LISTED_VALUES: usize = 2048;
 
 // The bytes of a buffer that holds the text of every input.

@@ -1,10 +1,12 @@
-// Ranges, and the laws of integers, lists, powers of two and bit widths that every proof cites: definitions and laws alone.
+// Numbers: the paper's ranges and widths, the form of every answer, and the laws of integers, lists and powers of two that every proof
+// cites.
 pub mod arithmetic;
 pub mod widths;
 
-// The most variables that a table may have, and the values of such a table.
+// The most variables that a table may have.
 pub const MOST_VARIABLES: usize = 12;
 
+// The values of such a table.
 pub const MOST_VALUES: usize = 4096;
 
 // The widest address of a cell, which is the greatest address limit too.

@@ -1,4 +1,4 @@
-// Operands: big-endian numbers of fixed width, read and written at a place in bytes.
+// Operands: numbers of fixed width as bytes, the highest byte first, read and written at a place.
 pub mod writing;
 
 ghost use mathlib.Core.Path.{_≡_};
@@ -7,6 +7,7 @@ ghost use lib.ListN.{length, getD};
 ghost use Rattle.operands.specs.Inner.Operands.{Operand};
 ghost use Rattle.operands.specs.Bytes.{signedAt};
 
+// The byte at a place.
 pub fn byte(image: &[u8], at: usize) -> usize
     requires { ⌜ at < length (now image) ⌝ }
     ensures { λ r. ⌜ (r ≡ getD (now (image .entry)) at 0) × (r < 256) ⌝ }
@@ -14,6 +15,7 @@ pub fn byte(image: &[u8], at: usize) -> usize
     image[at] as usize
 }
 
+// The number that one byte at a place stands for.
 pub fn read_one(image: &[u8], at: usize) -> usize
     requires { ⌜ at + 1 ≤ length (now image) ⌝ }
     ensures { λ r. ⌜ Operand (now (image .entry)) at 1 r ⌝ }
@@ -21,6 +23,7 @@ pub fn read_one(image: &[u8], at: usize) -> usize
     byte(image, at)
 }
 
+// The number that two bytes at a place stand for, the higher byte first.
 pub fn read_two(image: &[u8], at: usize) -> usize
     requires { ⌜ at + 2 ≤ length (now image) ⌝ }
     ensures { λ r. ⌜ Operand (now (image .entry)) at 2 r ⌝ }
@@ -28,6 +31,7 @@ pub fn read_two(image: &[u8], at: usize) -> usize
     byte(image, at) * 256 + byte(image, at + 1)
 }
 
+// The number that four bytes at a place stand for, the highest byte first.
 pub fn read_four(image: &[u8], at: usize) -> usize
     requires { ⌜ at + 4 ≤ length (now image) ⌝ }
     ensures { λ r. ⌜ Operand (now (image .entry)) at 4 r ⌝ }
@@ -35,6 +39,7 @@ pub fn read_four(image: &[u8], at: usize) -> usize
     read_two(image, at) * 65536 + read_two(image, at + 2)
 }
 
+// The signed number that four bytes at a place stand for, in two's complement.
 pub fn read_signed(image: &[u8], at: usize) -> i32
     requires { ⌜ at + 4 ≤ length (now image) ⌝ }
     ensures { λ r. ⌜ r ≡ signedAt (now (image .entry)) at ⌝ }

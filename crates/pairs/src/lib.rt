@@ -1,5 +1,5 @@
 // The pair run: an image as a function of X and Y, m bits each. It is read whole, for n = 2m, then evaluated at the index of X and Y.
-// What the compiled images of tables of two variables give is proved of it in specs/ (PairTables); the code knows nothing of tables.
+// The code knows nothing of tables; specs/PairTables has what compiled tables of two variables give.
 
 ghost use mathlib.Core.Path.{_≡_};
 ghost use mathlib.Core.Bool.{true};
@@ -30,6 +30,7 @@ fn is_pair(m: usize, x: usize, y: usize) -> bool
     y < side
 }
 
+// The index Z of X and Y: 2^m·X + Y.
 fn pair_index(m: usize, x: usize, y: usize) -> usize
     requires { ⌜ (isPairBits m ≡ true) × (isPair m x y ≡ true) ⌝ }
     ensures { λ r. ⌜ r ≡ pairIndex m x y ⌝ }

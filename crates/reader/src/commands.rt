@@ -9,6 +9,8 @@ use image::Command;
 use image::Kind;
 use image::Place;
 
+// The kind of the one command that is allowed at a place: the table first, words while some are left of the cell, a cell while
+// variables are left, then the end.
 pub(crate) fn due_kind(place: Place) -> Kind
     ensures { λ r. ⌜ dueOf r ≡ due place ⌝ }
 {
@@ -24,6 +26,7 @@ pub(crate) fn due_kind(place: Place) -> Kind
     Kind::End
 }
 
+// The byte that a command of a kind begins with.
 pub(crate) fn command_byte(kind: Kind) -> usize
     ensures { λ r. ⌜ r ≡ dueByte (dueOf kind) ⌝ }
 {
@@ -35,6 +38,7 @@ pub(crate) fn command_byte(kind: Kind) -> usize
     }
 }
 
+// The bytes that a command of a kind takes, its operands included.
 pub(crate) fn command_size(kind: Kind) -> usize
     ensures { λ r. ⌜ r ≡ dueSize (dueOf kind) ⌝ }
 {
@@ -46,6 +50,7 @@ pub(crate) fn command_size(kind: Kind) -> usize
     }
 }
 
+// The cell command at a place, with its operands.
 fn cell_at(image: &[u8], at: usize) -> Command
     requires { ⌜ at + cellSize ≤ length (now image) ⌝ }
     ensures { λ r. ⌜ (r ≡ commandAt cell (now (image .entry)) at) × (widthOf r < 256) ⌝ }
@@ -62,6 +67,7 @@ fn cell_at(image: &[u8], at: usize) -> Command
     }
 }
 
+// The command of a kind at a place, with its operands, which are all there.
 pub(crate) fn command_at(image: &[u8], at: usize, kind: Kind) -> Command
     requires { ⌜ at + dueSize (dueOf kind) ≤ length (now image) ⌝ }
     ensures { λ r. ⌜ (r ≡ commandAt (dueOf kind) (now (image .entry)) at) × (widthOf r < 256) ⌝ }

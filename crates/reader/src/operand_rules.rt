@@ -8,6 +8,7 @@ ghost use Rattle.image.specs.Reader.{keepsRules};
 use image::Command;
 use image::Place;
 
+// The rules of the table command: n and the offset are in range.
 pub(crate) fn table_keeps(n: usize, offset: i32) -> bool
     ensures { λ r. ⌜ r ≡ (isVariables n && isValue offset) ⌝ }
 {
@@ -45,6 +46,7 @@ pub(crate) fn cell_keeps(place: Place, group: usize, incoming: usize, outgoing: 
     numbers::widths::rail_width(incoming as u32) + group <= numbers::WIDEST_ADDRESS
 }
 
+// The rules of a word: its class is one of the outgoing ones, its weight in range, and 0 at group value 0.
 pub(crate) fn word_keeps(place: Place, class: usize, weight: i32) -> bool
     requires { ⌜ WithinBounds place ⌝ }
     ensures { λ r. ⌜ r ≡ keepsRules place (Command.Word class weight) ⌝ }

@@ -24,6 +24,7 @@ pub(crate) fn start_place() -> Place
     }
 }
 
+// The place after the table command: all its variables are left, and the cut reached has one class.
 fn after_table(place: Place, n: usize, offset: i32) -> Place
     requires { ⌜ place .at < 2 ^ 63 ⌝ }
     ensures { λ r. ⌜ r ≡ placeAfter place (Command.Table n offset) ⌝ }
@@ -42,6 +43,7 @@ fn after_table(place: Place, n: usize, offset: i32) -> Place
     }
 }
 
+// The place after a cell command: its words are to come, and its bits are added.
 fn after_cell(place: Place, group: usize, incoming: usize, outgoing: usize, width: usize) -> Place
     requires { ⌜ Follows place (Command.Cell group incoming outgoing width) ⌝ }
     ensures { λ r. ⌜ r ≡ placeAfter place (Command.Cell group incoming outgoing width) ⌝ }
@@ -60,6 +62,7 @@ fn after_cell(place: Place, group: usize, incoming: usize, outgoing: usize, widt
     }
 }
 
+// The place after a word: one word fewer is to come, and its weight is gathered.
 fn after_word(place: Place, class: usize, weight: i32) -> Place
     requires { ⌜ Follows place (Command.Word class weight) ⌝ }
     ensures { λ r. ⌜ r ≡ placeAfter place (Command.Word class weight) ⌝ }
@@ -78,6 +81,7 @@ fn after_word(place: Place, class: usize, weight: i32) -> Place
     }
 }
 
+// The place after the last command.
 fn after_end(place: Place, bits: usize) -> Place
     requires { ⌜ place .at < 2 ^ 63 ⌝ }
     ensures { λ r. ⌜ r ≡ placeAfter place (Command.End bits) ⌝ }
@@ -96,6 +100,7 @@ fn after_end(place: Place, bits: usize) -> Place
     }
 }
 
+// The place after a command.
 pub(crate) fn place_after(place: Place, command: Command) -> Place
     requires { ⌜ Follows place command ⌝ }
     ensures { λ r. ⌜ r ≡ placeAfter place command ⌝ }

@@ -8,6 +8,7 @@ ghost use Rattle.image.specs.Reader.{keepsRules, widthIsLeast, endsWell};
 use image::Command;
 use image::Place;
 
+// Whether a command keeps its operand rules at a place; the rule of a cell's width is judged after its last word.
 pub(crate) fn keeps_rules(place: Place, command: Command) -> bool
     requires { ⌜ WithinBounds place ⌝ }
     ensures { λ r. ⌜ r ≡ keepsRules place command ⌝ }
@@ -25,6 +26,7 @@ pub(crate) fn keeps_rules(place: Place, command: Command) -> bool
     }
 }
 
+// Whether the width of the cell just read, where none of its words is to come, is the least that holds its weights.
 pub(crate) fn width_is_least(place: Place) -> bool
     ensures { λ r. ⌜ r ≡ widthIsLeast place ⌝ }
 {
@@ -34,6 +36,7 @@ pub(crate) fn width_is_least(place: Place) -> bool
     place.width == numbers::widths::weight_width(place.least, place.greatest)
 }
 
+// Whether a command is the last one, 0x45.
 pub(crate) fn is_end(command: Command) -> bool
     ensures { λ r. ⌜ r ≡ isEnd command ⌝ }
 {
@@ -53,6 +56,7 @@ pub(crate) fn is_end(command: Command) -> bool
     }
 }
 
+// Whether no byte follows the last command; of other commands nothing is asked.
 pub(crate) fn ends_well(image: &[u8], place: Place, command: Command) -> bool
     requires { ⌜ place .at < 2 ^ 63 ⌝ }
     ensures { λ r. ⌜ r ≡ endsWell (now (image .entry)) place command ⌝ }

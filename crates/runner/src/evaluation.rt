@@ -8,6 +8,7 @@ ghost use Rattle.image.specs.Commands.{tableSize};
 use image::Evaluated;
 use image::Progress;
 
+// Where evaluation starts: behind the table command, with its offset and class 0.
 fn first_progress(image: &[u8]) -> Progress
     requires { ⌜ tableSize ≤ length (now image) ⌝ }
     ensures { λ r. ⌜ r ≡ firstProgress (now (image .entry)) ⌝ }
@@ -29,6 +30,7 @@ fn group_value(left: usize, group: usize, x: usize) -> usize
     x / (1 << (left - group)) % (1 << group)
 }
 
+// Where the word for X stands in the cell ahead.
 fn word_place(image: &[u8], x: usize, progress: Progress) -> usize
     requires { ⌜ CellAhead (now image) x progress ⌝ }
     ensures { λ r. ⌜ r ≡ wordPlace (now (image .entry)) x progress ⌝ }

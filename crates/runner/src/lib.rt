@@ -35,6 +35,7 @@ pub fn run(image: &[u8], x: usize) -> Ran
     }
 }
 
+// The value at every X that the table has a place for.
 fn fill(image: &[u8], table: &mut [i32])
     requires { ⌜ Accepted (now image) ⌝ }
     ensures { λ r. ⌜ now (table .exit) ≡ valuesTo (cardRead (now (image .entry))) (length (now (table .entry))) ⌝ }
@@ -48,6 +49,7 @@ fn fill(image: &[u8], table: &mut [i32])
     }
 }
 
+// Expand of an image that is known to be accepted.
 fn expand_accepted(image: &[u8], table: &mut [i32]) -> Expanded
     requires { ⌜ Accepted (now image) ⌝ }
     ensures { λ r. ⌜ Expands (now (image .entry)) (now (table .entry)) r (now (table .exit)) ⌝ }

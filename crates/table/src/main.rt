@@ -38,6 +38,7 @@ fn list_text(text: &[u8], out: &mut [u8; listing::TEXT_ROOM]) -> Answer
     }
 }
 
+// Writes a listing to standard output.
 fn print_listing(out: &[u8]) {
     if !io::write_all(STDOUT_FILENO, out) {
         io::write_all(STDERR_FILENO, b"table: cannot write standard output\n");

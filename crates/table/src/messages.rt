@@ -18,12 +18,14 @@ fn number_of(expected: Expected) -> u64
     }
 }
 
+// Writes the line of a refusal to standard output.
 pub(crate) fn print_refusal(number: u64) {
     io::write_all(STDOUT_FILENO, b"refused ");
     io::print_decimal(STDOUT_FILENO, number);
     io::write_all(STDOUT_FILENO, b"\n");
 }
 
+// Writes what was expected to standard error.
 fn print_expected(expected: Expected) {
     match expected {
         Expected::Variables => {
@@ -47,6 +49,7 @@ fn print_expected(expected: Expected) {
     }
 }
 
+// Writes the line and what was expected there, and the number of the refusal.
 pub(crate) fn print_wrong(line: usize, expected: Expected) {
     io::write_all(STDERR_FILENO, b"line ");
     io::print_decimal(STDERR_FILENO, line as u64);

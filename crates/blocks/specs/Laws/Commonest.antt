@@ -12,7 +12,7 @@ use borrow.Author.Tests.{eq-eqb, eqb-true, eqb-false}
 use Rattle.numbers.specs.Lists.{least}
 use Rattle.numbers.specs.Laws.Least.{least-under, below-least, least-le}
 use Rattle.blocks.specs.Uses.{mostUses, commonest}
-use Rattle.blocks.specs.declared.uses.Common.{Common}
+use Rattle.blocks.specs.declared.Common.{Common}
 
 -- Each class before it has fewer uses, none has more, and so many it has itself. A number past the last class has none.
 pub record Leading (counts : List ℕ) (c : Common) : Type 0 where

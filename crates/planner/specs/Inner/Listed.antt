@@ -12,7 +12,7 @@ use Rattle.numbers.specs.Widths.{railWidth}
 use Rattle.blocks.specs.Inner.Layout.{allCounts}
 use Rattle.blocks.specs.Uses.{commonest}
 use Rattle.blocks.specs.Inner.UseRows.{allUseRows, inCut}
-use Rattle.blocks.specs.declared.uses.Common.{Common}
+use Rattle.blocks.specs.declared.Common.{Common}
 use Rattle.diagram.specs.Accepted.{Accepted}
 use Rattle.cascade.specs.Plan.{noCell}
 use Rattle.cascade.specs.Inner.Choices.{costOf, sizeOf, tableChoice, choiceArray}

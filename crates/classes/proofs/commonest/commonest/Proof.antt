@@ -7,7 +7,7 @@ use native.Mathlib.Numerals.{add-one}
 use native.Mathlib.Omega.{arith}
 use lib.ListN.{length, getD, take}
 use lib.Seq.{take-suc, take-length, length-take-le}
-use Rattle.blocks.specs.declared.uses.Common.{Common}
+use Rattle.blocks.specs.declared.Common.{Common}
 use Rattle.blocks.specs.Laws.Commonest.{Leading, leading-is, none-leads, greater-leads, other-stays}
 use borrow.Author.Needs.{needs}
 use Rattle.classes.proofs.commonest.commonest.Statement.{statement}

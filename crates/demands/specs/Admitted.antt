@@ -4,7 +4,8 @@ use mathlib.Core.Path.{_≡_}
 use mathlib.Core.List.{List, [], _∷_, _++_}
 use lib.ListN.{length, getD, take}
 use lib.IntN.{ℤ, pos, negℤ, natAbs}
-use lib.Signed.{_≤ℤ_, _<ℤ_}
+use lib.Signed.{_<ℤ_}
+use Rattle.numbers.specs.Conditions.{Between, Variables, Limit, TableValue, Domain, LeastOver, GreatestOver}
 use Rattle.numbers.specs.Lists.{sumOf}
 use Rattle.numbers.specs.Widths.{weightWidth}
 use Rattle.blocks.specs.Classes.{railAt}
@@ -19,20 +20,6 @@ use Rattle.image.specs.declared.Place.{Place}
 use Rattle.cascade.specs.Compile.{imageFor}
 use Rattle.cascade.specs.Groupings.{BestGrouping}
 use Rattle.demands.specs.Checks.{Check, _otherwise_, AllHold, FirstFails}
-
--- ---- ranges
-
--- An integer from low to high, both included.
-unfoldable pub Between : ℤ → ℤ → ℤ → Type 0
-Between low high z = (low ≤ℤ z) × (z ≤ℤ high)
-
--- n is 1 to 12.
-unfoldable pub Variables : ℕ → Type 0
-Variables n = (1 ≤ n) × (n ≤ 12)
-
--- A value of a table, or an offset: from -8,388,608 to 8,388,607.
-unfoldable pub TableValue : ℤ → Type 0
-TableValue z = Between (negℤ (pos 8388608)) (pos 8388607) z
 
 -- ---- Build
 
@@ -55,23 +42,14 @@ pub record ListedChild (list : List ℤ) (k : ℕ) (child : ℤ) : Type 0 where
   pub earlier : Between (pos 0) (pos (k - 1)) child
   pub lower : ¬ (child ≡ pos 0) → variableAt list (natAbs child) <ℤ variableAt list k
 
--- The least of a function's values at X below 2^n: at no X is there less, and at some X it is met; the greatest likewise.
-pub record LeastOver (n : ℕ) (f : ℕ → ℤ) (z : ℤ) : Type 0 where
-  pub under : (x : ℕ) → x < 2 ^ n → z ≤ℤ f x
-  pub met : (x : ℕ) × ((x < 2 ^ n) × (z ≡ f x))
-
-pub record GreatestOver (n : ℕ) (f : ℕ → ℤ) (z : ℤ) : Type 0 where
-  pub over : (x : ℕ) → x < 2 ^ n → f x ≤ℤ z
-  pub met : (x : ℕ) × ((x < 2 ^ n) × (z ≡ f x))
-
 -- Record k of a list for n variables. Its function is the sum of the weights of the 1-edges on the path from it.
 pub record ListedRecord (n : ℕ) (list : List ℤ) (k : ℕ) : Type 0 where
   pub variable : Between (pos 0) (pos (n - 1)) (variableAt list k)
   pub low : ListedChild list k (lowAt list k)
   pub high : ListedChild list k (highAt list k)
   pub weight : Between (negℤ (pos 16777215)) (pos 16777215) (weightAt list k)
-  pub least : LeastOver n (pathWeight list n k) (leastAt list k)
-  pub greatest : GreatestOver n (pathWeight list n k) (greatestAt list k)
+  pub least : LeastOver (Domain n) (pathWeight list n k) (leastAt list k)
+  pub greatest : GreatestOver (Domain n) (pathWeight list n k) (greatestAt list k)
 
 -- A record list: a multiple of 6 numbers, at most 6·(2^n - 1), and each of its records keeps the rules.
 pub record RecordList (n : ℕ) (list : List ℤ) : Type 0 where
@@ -101,7 +79,7 @@ pub record FittingGrouping (n : ℕ) (table : List ℤ) (limit : ℕ) (sizes : L
 unfoldable pub planChecks : ℕ → List ℤ → ℕ → List Check
 planChecks n table limit =
     tableChecks n table
-    ++ ((1 ≤ limit) × (limit ≤ 12)) otherwise 8
+    ++ Limit limit otherwise 8
     ∷ ((sizes : List ℕ) × FittingGrouping n table limit sizes) otherwise 9
     ∷ []
 

@@ -1,7 +1,6 @@
 -- What is proved of the definitions of this crate; a file stands behind those whose laws it cites.
 pub mod Checks
 pub mod Clients
-pub mod Tests
 pub mod Diagram
 pub mod Cascade
 pub mod Image

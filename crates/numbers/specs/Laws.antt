@@ -16,6 +16,7 @@ pub mod Rows
 pub mod Runs
 pub mod Sums
 pub mod Tallies
+pub mod Tests
 pub mod Widths
 pub mod BitLength
 pub mod Extremes

@@ -1,9 +1,10 @@
--- The form of every operation's answer, lists by tests, the paper's ranges and widths, and what holds of the weight width.
+-- The form of every operation's answer, lists by tests, the paper's ranges and widths, the same ranges as plain conditions, and what holds of the weight width.
 pub mod Answers
 pub mod Lists
 pub mod Extremes
 pub mod Ranges
 pub mod Widths
+pub mod Conditions
 pub mod Theorems
 -- What inner functions promise and hold.
 pub mod Inner

@@ -23,7 +23,7 @@ use Rattle.demands.specs.Checks.{_otherwise_, AllHold, Decided}
 use Rattle.demands.specs.Admitted.{FittingGrouping, planChecks, compileChecks}
 use Rattle.demands.specs.Laws.Checks.{decided-accepted, decided-unless, decided-then, decided-map, decided-otherwise, all-append, answers-value, buffer-written, buffer-kept}
 use Rattle.demands.specs.Laws.Diagram.{decided-table}
-use Rattle.demands.specs.Laws.Tests.{le-test, eq-test, and-test, limit-test, every-test}
+use Rattle.numbers.specs.Laws.Tests.{le-test, eq-test, and-test, limit-test, every-test}
 
 -- ---- groupings that fit
 

@@ -22,9 +22,10 @@ use Rattle.diagram.specs.Laws.Builds.{summary-length}
 use Rattle.diagram.specs.Laws.NodeRanges.{before-value, some-value, extreme-value}
 use Rattle.diagram.specs.Walk.{variableAt, lowAt, highAt, weightAt, leastAt, greatestAt, childFits, edgesFit, pathWeight, nodeValues, rangeFits, recordFits, recordCount, listFits, ofList, walk, walkValue}
 use Rattle.demands.specs.Checks.{Check, AllHold, Decided}
-use Rattle.demands.specs.Admitted.{tableChecks, buildChecks, ListedChild, LeastOver, GreatestOver, ListedRecord, RecordList, walkChecks}
+use Rattle.numbers.specs.Conditions.{Domain, LeastOver, GreatestOver}
+use Rattle.demands.specs.Admitted.{tableChecks, buildChecks, ListedChild, ListedRecord, RecordList, walkChecks}
 use Rattle.demands.specs.Laws.Checks.{decided-accepted, decided-unless, decided-map, answers-value, unless-only, accepted-only}
-use Rattle.demands.specs.Laws.Tests.{le-test, lt-test, eq-test, less-test, same-test, at-most-test, and-test, or-test, between-test, variables-test, value-test, every-test, every-from-one}
+use Rattle.numbers.specs.Laws.Tests.{le-test, lt-test, eq-test, less-test, same-test, at-most-test, and-test, or-test, between-test, variables-test, value-test, every-test, every-from-one}
 
 -- The checks on a table, and what follows them.
 pub decided-table : {A : Type 0} (n : ℕ) (table : List ℤ) {rest : Answer A} {checks : List Check} → Decided rest checks → Decided (ofTable n table rest) (tableChecks n table ++ checks)
@@ -57,7 +58,7 @@ child-test list k child =
     )
 
 -- Its least and its greatest.
-least-test : (n : ℕ) (list : List ℤ) (k : ℕ) → (eqZ (leastAt list k) (leastOf (nodeValues n list k)) ≡ true) ↔ LeastOver n (pathWeight list n k) (leastAt list k)
+least-test : (n : ℕ) (list : List ℤ) (k : ℕ) → (eqZ (leastAt list k) (leastOf (nodeValues n list k)) ≡ true) ↔ LeastOver (Domain n) (pathWeight list n k) (leastAt list k)
 least-test n list k = (
   (λ h.
       let e = eqZ-true (leastAt list k) (leastOf (nodeValues n list k)) h in
@@ -73,19 +74,19 @@ least-test n list k = (
       ∙ eqZ-refl (leastAt list k)),
 )
 
-greatest-test : (n : ℕ) (list : List ℤ) (k : ℕ) → (eqZ (greatestAt list k) (greatestOf (nodeValues n list k)) ≡ true) ↔ GreatestOver n (pathWeight list n k) (greatestAt list k)
+greatest-test : (n : ℕ) (list : List ℤ) (k : ℕ) → (eqZ (greatestAt list k) (greatestOf (nodeValues n list k)) ≡ true) ↔ GreatestOver (Domain n) (pathWeight list n k) (greatestAt list k)
 greatest-test n list k = (
   (λ h.
       let e = eqZ-true (greatestAt list k) (greatestOf (nodeValues n list k)) h in
       let m = some-value greatests n list k in
       record {
-        over = λ x l. at-most-test (pathWeight list n k x) (greatestAt list k) .0 (ap (leZ (pathWeight list n k x)) e ∙ before-value greatests n list k x l);
+        above = λ x l. at-most-test (pathWeight list n k x) (greatestAt list k) .0 (ap (leZ (pathWeight list n k x)) e ∙ before-value greatests n list k x l);
         met = (m .0, (m .1 .0, e ∙ m .1 .1));
       }),
   (λ r.
       let m = r .met in
       ap (eqZ (greatestAt list k))
-      (extreme-value greatests n list k (greatestAt list k) (m .0) (m .1 .0) (m .1 .1) (λ x l. at-most-test (pathWeight list n k x) (greatestAt list k) .1 (r .over x l)))
+      (extreme-value greatests n list k (greatestAt list k) (m .0) (m .1 .0) (m .1 .1) (λ x l. at-most-test (pathWeight list n k x) (greatestAt list k) .1 (r .above x l)))
       ∙ eqZ-refl (greatestAt list k)),
 )
 

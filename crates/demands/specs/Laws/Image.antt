@@ -29,7 +29,7 @@ use Rattle.image.specs.declared.Place.{Place}
 use Rattle.demands.specs.Checks.{Decided}
 use Rattle.demands.specs.Admitted.{OperandRules, commandHere, placeChecks, ComesTo, first, next, ImageFault, ImageOf, imageCheck, runChecks, expandChecks}
 use Rattle.demands.specs.Laws.Checks.{decided-accepted, decided-unless, decided-then, decided-check}
-use Rattle.demands.specs.Laws.Tests.{le-test, lt-test, eq-test, and-test, or-test, variables-test, value-test}
+use Rattle.numbers.specs.Laws.Tests.{le-test, lt-test, eq-test, and-test, or-test, variables-test, value-test}
 
 -- ---- one place
 

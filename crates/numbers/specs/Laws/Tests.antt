@@ -1,4 +1,4 @@
--- Each test of the definitions passes exactly where the paper's condition holds.
+-- Each test passes exactly where its plain condition holds.
 use Prim.Native.Nat.{ℕ, _+_, _-_, _≤_, _<_}
 use mathlib.Core.Path.{_≡_, refl, sym, _∙_, subst}
 use mathlib.Core.Logic.{_↔_}
@@ -10,12 +10,12 @@ use lib.Dec.{T, leb, ltb, eqb}
 use lib.IntN.{ℤ}
 use lib.Signed.{leZ, ltZ, _≤ℤ_, _<ℤ_}
 use borrow.Author.Tests.{ltb-true, leb-true, eqb-true, lt-ltb, le-leb, eq-eqb}
 use Rattle.numbers.specs.Lists.{numbersFrom, every}
 use Rattle.numbers.specs.Ranges.{mostVariables, widestAddress, isVariables, isLimit, within, isValue, eqZ}
 use Rattle.numbers.specs.Laws.Bools.{both, and-both}
 use Rattle.numbers.specs.Laws.Integers.{eqZ-true, eqZ-refl}
 use Rattle.numbers.specs.Laws.Lists.{every-at, every-from, length-range, getD-range}
-use Rattle.demands.specs.Admitted.{Between, Variables, TableValue}
+use Rattle.numbers.specs.Conditions.{Between, Variables, Limit, TableValue}
 
 -- ---- tests of numbers
 
@@ -58,8 +58,8 @@ pub variables-test : (n : ℕ) → (isVariables n ≡ true) ↔ Variables n
 unfolding isVariables mostVariables Variables
 variables-test n = and-test (leb 1 n) (leb n 12) (le-test 1 n) (le-test n 12)
 
-pub limit-test : (limit : ℕ) → (isLimit limit ≡ true) ↔ ((1 ≤ limit) × (limit ≤ 12))
-unfolding isLimit widestAddress
+pub limit-test : (limit : ℕ) → (isLimit limit ≡ true) ↔ Limit limit
+unfolding isLimit widestAddress Limit
 limit-test limit = and-test (leb 1 limit) (leb limit 12) (le-test 1 limit) (le-test limit 12)
 
 pub value-test : (z : ℤ) → (isValue z ≡ true) ↔ TableValue z

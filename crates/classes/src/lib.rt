@@ -1,9 +1,8 @@
 // The classes of every cut: each block's class, each class's first block, how many classes a cut has, how many classes were tried for
 // each block, how many blocks up to and including it have its class, and how many have each class.
-pub mod classing;
 pub mod commonest;
-pub mod cuts;
-pub mod search;
+mod cuts;
+mod search;
 
 ghost use mathlib.Core.Path.{_≡_};
 ghost use Prim.Native.Nat.{suc, _≤_};

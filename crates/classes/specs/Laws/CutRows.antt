@@ -22,7 +22,7 @@ use Rattle.blocks.specs.Laws.TryRows.{length-cut-tries}
 use Rattle.blocks.specs.Uses.{usesOf, classesAt, cutUses}
 use Rattle.blocks.specs.Inner.UseRows.{useRow, cutUseRow}
 use Rattle.blocks.specs.Laws.UseRows.{length-cut-uses, length-cut-use-row, classes-are}
-use Rattle.classes.specs.Inner.Block.{cutRows}
+use Rattle.classes.specs.Inner.Noting.{cutRows}
 use Rattle.classes.specs.Inner.Classing.{CutRoom, CutClassed}
 use Rattle.classes.specs.Inner.Placing.{CutPlaced}
 use Rattle.classes.specs.Inner.Searched.{SearchRoom}
@@ -85,14 +85,17 @@ module _ {n h count size : ℕ} {table : List ℤ} {classRow firstRow triedRow u
 
   pub cut-room : CutRoom table size (cutRows 0 (lent classRow) (lent firstRow) (lent triedRow) (lent usesRow) (lent useCountRow))
   cut-room = record {
-    whole = rows .whole ∙ sym (ap₂ _*_ (lent-length classRow within-classes ∙ is-count) is-size ∙ cut-whole n h cut);
+    cut = record {
+      some = rw is-size (pow-pos (n - h));
+      whole = rows .whole ∙ sym (ap₂ _*_ (lent-length classRow within-classes ∙ is-count) is-size ∙ cut-whole n h cut);
+      halved = rw (lent-length classRow within-classes, is-count) (halved h);
+    };
     alike = record {
       firstsAlike = lent-length firstRow within-firsts ∙ sym (lent-length classRow within-classes);
       triedAlike = lent-length triedRow within-tried ∙ sym (lent-length classRow within-classes);
       usesAlike = lent-length usesRow within-uses ∙ sym (lent-length classRow within-classes);
       useCountsAlike = lent-length useCountRow within-use-counts ∙ sym (lent-length classRow within-classes);
     };
-    halved = rw (lent-length classRow within-classes, is-count) (halved h);
   }
 
   -- A cut's row, back among those of all cuts.

@@ -3,5 +3,4 @@ pub mod Searching
 pub mod Finding
 pub mod Noting
 pub mod Classing
-pub mod Placing
 pub mod Searched

@@ -8,7 +8,7 @@ ghost use Rattle.blocks.specs.Inner.UseRows.{inCut};
 use blocks::Common;
 
 // The class with the greatest use count, the smallest number on a tie; class 0 with 0 where there is none.
-pub fn commonest(use_counts: &[usize]) -> Common
+fn commonest(use_counts: &[usize]) -> Common
     ensures { λ r. ⌜ r ≡ commonest (now («use_counts» .entry)) ⌝ }
 {
     let mut class = 0;

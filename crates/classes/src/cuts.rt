@@ -1,95 +1,77 @@
 // The classes of one cut: the class of each block, one after the other, the first block of each class, how many classes were tried
 // for each block, how many blocks up to and including it have its class, and how many have each class.
 ghost use mathlib.Core.Path.{_≡_};
+ghost use Prim.Native.Nat.{_/_, _≤_, _<_};
 ghost use lib.ListN.{length};
-ghost use Rattle.classes.specs.Inner.Block.{cutRows};
-ghost use Rattle.classes.specs.Inner.Classing.{HalvesRoom, halvesClassed, CutRoom, CutClassed};
+ghost use Rattle.classes.specs.Inner.Finding.{cutLists, foundAt, BlocksBefore};
+ghost use Rattle.classes.specs.Inner.Noting.{latestClass, countNoted, firstsNoted, usesNoted, cutRows};
+ghost use Rattle.classes.specs.Inner.Classing.{CutRoom, CutClassed};
+use crate::search::Found;
 
-// The halves of block j of the cut above are classed, the upper half being the part that begins in the block's middle.
-fn class_halves(
+// What the search finds for block j of a cut: at cut 0 the block is the table, below it a half of a block of the cut above, the
+// upper half being the part that begins in that block's middle.
+fn find_block(
     table: &[i32],
     size: usize,
     j: usize,
-    above: &[i32],
-    count: usize,
-    classes: &mut [usize],
-    firsts: &mut [usize],
-    tried: &mut [usize],
-    uses: &mut [usize],
-    use_counts: &mut [usize],
-) -> usize
-    requires { ⌜ HalvesRoom (now table) size j (now above) (cutRows count (now classes) (now firsts) (now tried) (now uses) (now «use_counts»)) ⌝ }
-    ensures { λ r. ⌜ cutRows r (now (classes .exit)) (now (firsts .exit)) (now (tried .exit)) (now (uses .exit)) (now («use_counts» .exit)) ≡ halvesClassed (now (table .entry)) size j (now (above .entry)) (cutRows count (now (classes .entry)) (now (firsts .entry)) (now (tried .entry)) (now (uses .entry)) (now («use_counts» .entry))) ⌝ }
+    firsts: &[usize],
+    use_counts: &[usize],
+    latest: usize,
+) -> Found
+    requires { ⌜ BlocksBefore (now table) size j (now firsts) (now «use_counts») latest ⌝ }
+    ensures { λ r. ⌜ r ≡ foundAt (cutLists (now (table .entry)) size (length (now (table .entry)) / size)) j ⌝ }
 {
+    if size == table.len() {
+        return crate::search::find_class(table, size, firsts, use_counts, latest, table);
+    }
+    let start = j / 2 * (2 * size);
+    let end = start + 2 * size;
+    let above = &table[start..end];
     let middle = above.len() / 2;
-    let lower = &above[..middle];
+    if j % 2 == 0 {
+        let lower = &above[..middle];
+        return crate::search::find_class(table, size, firsts, use_counts, latest, lower);
+    }
     let upper = &above[middle..];
-    let known = crate::classing::class_block(
-        table,
-        size,
-        2 * j,
-        lower,
-        count,
-        classes,
-        firsts,
-        tried,
-        uses,
-        use_counts,
-    );
-    crate::classing::class_block(
-        table,
-        size,
-        2 * j + 1,
-        upper,
-        known,
-        classes,
-        firsts,
-        tried,
-        uses,
-        use_counts,
-    )
+    crate::search::find_class(table, size, firsts, use_counts, latest, upper)
 }
 
-// The classes of a cut below another: its blocks are the halves of the blocks of the cut above, each a part of the table.
-fn class_cut_below(
-    table: &[i32],
-    size: usize,
-    classes: &mut [usize],
-    firsts: &mut [usize],
-    tried: &mut [usize],
-    uses: &mut [usize],
-    use_counts: &mut [usize],
-) -> usize
-    requires { ⌜ CutRoom (now table) size (cutRows 0 (now classes) (now firsts) (now tried) (now uses) (now «use_counts»)) ⌝ }
-    requires { ⌜ (length (now classes) ≡ 1 → ⊥) ⌝ }
-    ensures { λ r. ⌜ CutClassed (now (table .entry)) size (length (now (classes .entry))) (cutRows r (now (classes .exit)) (now (firsts .exit)) (now (tried .exit)) (now (uses .exit)) (now («use_counts» .exit))) ⌝ }
+// The latest class at block j: that of the block just before, and 0 at the first block, where no class is known.
+fn latest_class(classes: &[usize], j: usize) -> usize
+    requires { ⌜ j ≤ length (now classes) ⌝ }
+    ensures { λ r. ⌜ r ≡ latestClass (now (classes .entry)) j ⌝ }
 {
-    let mut count = 0;
-    let mut j = 0;
-    while j < classes.len() / 2 {
-        let start = 2 * j * size;
-        let end = start + 2 * size;
-        count = class_halves(
-            table,
-            size,
-            j,
-            &table[start..end],
-            count,
-            classes,
-            firsts,
-            tried,
-            uses,
-            use_counts,
-        );
-        j += 1;
+    if j == 0 {
+        return 0;
+    }
+    classes[j - 1]
+}
+
+// The first block of a new class is noted behind those known, in a row of one place for each block so far.
+fn note_first(firsts: &mut [usize], count: usize, j: usize, class: usize) -> usize
+    requires { ⌜ (count ≤ j) × (j < length (now firsts)) ⌝ }
+    ensures { λ r. ⌜ (r ≡ countNoted count class) × (now (firsts .exit) ≡ firstsNoted (now (firsts .entry)) count j class) ⌝ }
+{
+    firsts[j] = 0;
+    if class == count {
+        firsts[count] = j;
+        return count + 1;
     }
     count
 }
 
+// The uses of a class are noted, in a row of one place for each block so far.
+fn note_uses(use_counts: &mut [usize], j: usize, class: usize, uses: usize)
+    requires { ⌜ (class ≤ j) × (j < length (now «use_counts»)) ⌝ }
+    ensures { λ r. ⌜ now («use_counts» .exit) ≡ usesNoted (now («use_counts» .entry)) j class uses ⌝ }
+{
+    use_counts[j] = 0;
+    use_counts[class] = uses;
+}
+
 // The classes of a cut whose blocks have this size: each block's class, each class's first block, how many classes were tried for
-// each block and how many blocks up to it have its class, each class's use count, and the class count. Cut 0 has one block, the
-// table.
-pub fn class_cut(
+// each block and how many blocks up to it have its class, each class's use count, and the class count.
+pub(crate) fn class_cut(
     table: &[i32],
     size: usize,
     classes: &mut [usize],
@@ -101,19 +83,24 @@ pub fn class_cut(
     requires { ⌜ CutRoom (now table) size (cutRows 0 (now classes) (now firsts) (now tried) (now uses) (now «use_counts»)) ⌝ }
     ensures { λ r. ⌜ CutClassed (now (table .entry)) size (length (now (classes .entry))) (cutRows r (now (classes .exit)) (now (firsts .exit)) (now (tried .exit)) (now (uses .exit)) (now («use_counts» .exit))) ⌝ }
 {
-    if classes.len() == 1 {
-        return crate::classing::class_block(
+    let mut count = 0;
+    let mut j = 0;
+    while j < classes.len() {
+        let latest = latest_class(classes, j);
+        let found = find_block(
             table,
             size,
-            0,
-            table,
-            0,
-            classes,
-            firsts,
-            tried,
-            uses,
-            use_counts,
+            j,
+            &firsts[..count],
+            &use_counts[..count],
+            latest,
         );
+        classes[j] = found.class;
+        tried[j] = found.tried;
+        uses[j] = found.uses;
+        note_uses(use_counts, j, found.class, found.uses);
+        count = note_first(firsts, count, j, found.class);
+        j += 1;
     }
-    class_cut_below(table, size, classes, firsts, tried, uses, use_counts)
+    count
 }

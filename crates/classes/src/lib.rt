@@ -1,47 +1,15 @@
 // The classes of every cut: each block's class, each class's first block, how many classes a cut has, how many classes were tried for
 // each block, how many blocks up to and including it have its class, and how many have each class.
-pub mod classing;
 pub mod commonest;
-pub mod cuts;
-pub mod search;
+mod cuts;
+mod search;
 
 ghost use mathlib.Core.Path.{_≡_};
-ghost use Prim.Native.Nat.{suc, _≤_};
+ghost use Prim.Native.Nat.{suc};
 ghost use lib.ListN.{length};
 ghost use Rattle.blocks.specs.Inner.Layout.{cutPlace, CutsRoom, AllClassed};
 ghost use Rattle.blocks.specs.Inner.UseRows.{allUseRows};
-ghost use Rattle.classes.specs.Inner.Placing.{CutPlaced};
 ghost use Rattle.classes.specs.Inner.Searched.{SearchRoom, AllSearched};
-
-// The classes of cut h, at their places in the rows of all cuts.
-fn class_cut_at(
-    n: usize,
-    h: usize,
-    table: &[i32],
-    classes: &mut [usize],
-    firsts: &mut [usize],
-    tried: &mut [usize],
-    uses: &mut [usize],
-    use_counts: &mut [usize],
-) -> usize
-    requires { ⌜ CutsRoom n (now table) (now classes) (now firsts) × SearchRoom n (now tried) (now uses) (now «use_counts») ⌝ }
-    requires { ⌜ h ≤ n ⌝ }
-    ensures { λ r. ⌜ CutPlaced n (now (table .entry)) h (now (classes .entry)) (now (firsts .entry)) (now (tried .entry)) (now (uses .entry)) (now («use_counts» .entry)) r (now (classes .exit)) (now (firsts .exit)) (now (tried .exit)) (now (uses .exit)) (now («use_counts» .exit)) ⌝ }
-{
-    let count = numbers::arithmetic::power(h);
-    let size = numbers::arithmetic::power(n - h);
-    let start = count - 1;
-    let end = start + count;
-    crate::cuts::class_cut(
-        table,
-        size,
-        &mut classes[start..end],
-        &mut firsts[start..end],
-        &mut tried[start..end],
-        &mut uses[start..end],
-        &mut use_counts[start..end],
-    )
-}
 
 // The classes of all cuts: each block's class, each class's first block, the class count of each cut, and what the search tells of
 // each block and of each class.
@@ -62,7 +30,20 @@ pub fn class_cuts(
 {
     let mut h = 0;
     while h <= n {
-        counts[h] = class_cut_at(n, h, table, classes, firsts, tried, uses, use_counts);
+        // Cut h has 2^h blocks, and stands in the rows of all cuts from place 2^h - 1 on.
+        let count = numbers::arithmetic::power(h);
+        let size = numbers::arithmetic::power(n - h);
+        let start = count - 1;
+        let end = start + count;
+        counts[h] = crate::cuts::class_cut(
+            table,
+            size,
+            &mut classes[start..end],
+            &mut firsts[start..end],
+            &mut tried[start..end],
+            &mut uses[start..end],
+            &mut use_counts[start..end],
+        );
         h += 1;
     }
 }

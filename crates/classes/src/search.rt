@@ -15,7 +15,7 @@ struct Looked {
 
 // What the search for a block's class finds: the class, how many classes were tried, that one included, and how many blocks up to
 // and including this one have it.
-pub struct Found {
+pub(crate) struct Found {
     pub class: usize,
     pub tried: usize,
     pub uses: usize,
@@ -106,7 +106,7 @@ fn uses_with(use_counts: &[usize], class: usize) -> usize
 
 // The class of a block among the known ones, each given by its first block and by how many blocks have it so far; where none is
 // equal, the next new number.
-pub fn find_class(
+pub(crate) fn find_class(
     table: &[i32],
     size: usize,
     firsts: &[usize],

@@ -12,6 +12,7 @@ use borrow.Author.Tests.{eq-eqb, ne-eqb, lt-ltb, le-ltb}
 use Rattle.numbers.specs.Lists.{numbersFrom, tally, sumOf}
 use Rattle.numbers.specs.Laws.Tallies.{tally-nil, tally-passed, tally-failed, tally-le-length, tally-all, tally-append, sum-run-suc}
 use Rattle.blocks.specs.Uses.{useCount, usesAt}
+use Rattle.blocks.specs.Laws.UseRows.{length-run, run-at}
 
 -- ---- one block more
 
@@ -63,19 +64,19 @@ module _ (l : List ℕ) (j known : ℕ) (below : j < length l) (few : known ≤ 
       let g = getD-take j l i 0 i-below in
       omega arith)
 
-  module _ (row : List ℕ) (room : j < length row) (so-far : (k : ℕ) → k < j → getD row k 0 ≡ useCount (take j l) k) where
-    -- What the search answers from the known part of the row.
-    pub found-uses : getD (take known row) class 0 + 1 ≡ usesAt l j
-    found-uses = old-or-new (decLt class known) ∙ sym (uses-include l j below)
-      where
-        old-or-new : Dec (class < known) → getD (take known row) class 0 + 1 ≡ suc (useCount (take j l) (getD l j 0))
-        old-or-new (yes old) =
-            ap (λ m. m + 1) (getD-take known row class 0 old ∙ so-far class (omega arith) ∙ ap (useCount (take j l)) is)
-            ∙ (let t = useCount (take j l) (getD l j 0) in let e : t + 1 ≡ suc t = omega arith in e)
-        old-or-new (no new) =
-            ap (λ m. m + 1) (List·getD-eq-default (take known row) 0 (let t = length-take-le known row (omega arith) in omega arith))
-            ∙ sym (ap suc (ap (useCount (take j l)) (sym is) ∙ unseen class (omega arith)))
+  -- What the search answers from the use counts of the known classes.
+  pub found-uses : getD (map (useCount (take j l)) (numbersFrom 0 known)) class 0 + 1 ≡ usesAt l j
+  found-uses = old-or-new (decLt class known) ∙ sym (uses-include l j below)
+    where
+      old-or-new : Dec (class < known) → getD (map (useCount (take j l)) (numbersFrom 0 known)) class 0 + 1 ≡ suc (useCount (take j l) (getD l j 0))
+      old-or-new (yes old) =
+          ap (λ m. m + 1) (run-at (useCount (take j l)) known class old ∙ ap (useCount (take j l)) is)
+          ∙ (let t = useCount (take j l) (getD l j 0) in let e : t + 1 ≡ suc t = omega arith in e)
+      old-or-new (no new) =
+          ap (λ m. m + 1) (List·getD-eq-default (map (useCount (take j l)) (numbersFrom 0 known)) 0 (rw length-run (omega arith)))
+          ∙ sym (ap suc (ap (useCount (take j l)) (sym is) ∙ unseen class (omega arith)))
 
+  module _ (row : List ℕ) (room : j < length row) (so-far : (k : ℕ) → k < j → getD row k 0 ≡ useCount (take j l) k) where
     -- The row with a place for the block, and its class's uses in it.
     pub row-next : (k : ℕ) → k < suc j → getD (set (set row j 0) class (usesAt l j)) k 0 ≡ useCount (take (suc j) l) k
     row-next k inside = own-or-other (ℕ-discrete k class)

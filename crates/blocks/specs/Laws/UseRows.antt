@@ -21,10 +21,10 @@ use Rattle.blocks.specs.Inner.UseRows.{useRow, cutUseRow, allUseRows, in
 
 -- ---- lists over a run of numbers
 
-length-run : (f : ℕ → ℕ) (count : ℕ) → length (map f (numbersFrom 0 count)) ≡ count
+pub length-run : (f : ℕ → ℕ) (count : ℕ) → length (map f (numbersFrom 0 count)) ≡ count
 length-run f count = length-map (numbersFrom 0 count) f ∙ length-range 0 count
 
-run-at : (f : ℕ → ℕ) (count k : ℕ) → k < count → getD (map f (numbersFrom 0 count)) k 0 ≡ f k
+pub run-at : (f : ℕ → ℕ) (count k : ℕ) → k < count → getD (map f (numbersFrom 0 count)) k 0 ≡ f k
 run-at f count k l = getD-map f (numbersFrom 0 count) k 0 0 (rw length-range l) ∙ ap f (getD-range 0 count k 0 l ∙ zero-add k)
 
 pub length-use-row : (blockClasses : List ℕ) → length (useRow blockClasses) ≡ length blockClasses

@@ -22,7 +22,7 @@ use Rattle.blocks.specs.Uses.{cutUses}
 use Rattle.blocks.specs.Inner.UseRows.{cutUseRow, allUses, allUseRows}
 use Rattle.blocks.specs.Laws.UseRows.{length-cut-uses, length-cut-use-row}
 use Rattle.classes.specs.Laws.Noting.{all-noted}
-use Rattle.classes.specs.Inner.Placing.{CutPlaced}
+use Rattle.classes.specs.Laws.CutRows.{CutPlaced}
 use Rattle.classes.specs.Inner.Searched.{SearchRoom, AllSearched}
 use Rattle.blocks.specs.Laws.Cuts.{length-cut-numbers, length-cut-firsts, cut-end, cut-within}
 

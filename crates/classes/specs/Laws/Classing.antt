@@ -1,23 +1,33 @@
 -- Classing lists one by one, left to right: what is known after each, in the row of numbers and in the row of first places.
-use Prim.Native.Nat.{ℕ, suc, _+_, _≤_, _<_}
+use Prim.Native.Nat.{ℕ, zero, suc, _+_, _-_, _≤_, _<_}
 use mathlib.Core.Path.{_≡_, refl, sym, _∙_, ap, ap₂}
 use mathlib.Core.List.{List, [], _∷_, _++_, map, map-append, append-assoc}
 use native.Mathlib.Decide.{decLt}
 use native.Mathlib.Omega.{arith}
 use lib.ListN.{length, getD, take, drop, set, length-append, length-map}
-use lib.Seq.{take-suc, take-suc-set, take-set-lt, length-take-le, take-take, split-at, take-length}
+use lib.Seq.{take-suc, take-suc-set, take-set-lt, getD-take, length-take-le, take-take, split-at, take-length}
 use lib.IntN.{ℤ}
 use borrow.Author.Tests.{eq-eqb, ne-eqb}
 use Rattle.numbers.specs.Lists.{padded}
+use Rattle.numbers.specs.Laws.Lists.{getD-map}
 use Rattle.numbers.specs.Laws.Padding.{take-padded, padded-suc, set-padded}
 use Rattle.blocks.specs.Classes.{numberIn, learn, learnAll, distinct}
 use Rattle.blocks.specs.Inner.Layout.{numbersOf, firstsOf}
-use Rattle.classes.specs.Inner.Block.{countNoted, firstsNoted}
-use Rattle.classes.specs.Inner.Classing.{Classed}
-use Rattle.blocks.specs.Laws.Known.{number-le, number-at, number-append, number-new, learn-known, learn-new, known-or-new, learnAll-append, number-when-met, distinct-known, distinct-length}
+use Rattle.blocks.specs.Tries.{blockClass, knownBefore}
+use Rattle.blocks.specs.Laws.Latest.{none-before, class-most}
+use Rattle.classes.specs.Inner.Finding.{firstsBefore}
+use Rattle.classes.specs.Inner.Noting.{latestClass, countNoted, firstsNoted}
+use Rattle.classes.specs.Laws.Uses.{known-few}
+use Rattle.blocks.specs.Laws.Known.{number-le, number-at, number-append, number-new, learn-known, learn-new, known-or-new, learnAll-append, number-when-met, distinct-known}
+
+-- What the rows of numbers and of first places hold after the first j lists.
+pub record Classed (ds : List (List ℤ)) (j count : ℕ) (numbers firsts : List ℕ) : Type 0 where
+  pub known : count ≡ knownBefore ds j
+  pub numbered : take j numbers ≡ map (numberIn (distinct ds)) (take j ds)
+  pub placed : take j firsts ≡ padded j 0 (firstsBefore ds j)
 
 pub none-classed : (ds : List (List ℤ)) (numbers firsts : List ℕ) → Classed ds 0 0 numbers firsts
-unfolding distinct learnAll padded
+unfolding knownBefore firstsBefore distinct learnAll padded
 none-classed ds numbers firsts = record { known = refl; numbered = refl; placed = refl }
 
 module _ (ds : List (List ℤ)) (j : ℕ) (below : j < length ds) where
@@ -34,9 +44,6 @@ module _ (ds : List (List ℤ)) (j : ℕ) (below : j < length ds) where
 
   take-length-j : length (take j ds) ≡ j
   take-length-j = length-take-le j ds (omega arith)
-
-  pub before-length : length (distinct (take j ds)) ≤ j
-  before-length = let p = distinct-length (take j ds) in let q = take-length-j in omega arith
 
   -- A list that is new among the known appears first at its own place.
   new-place : length before ≤ numberIn before next → numberIn ds next ≡ j
@@ -73,13 +80,14 @@ module _ (ds : List (List ℤ)) (j : ℕ) (below : j < length ds) where
 
     -- One place more in the row of first places.
     row : take (suc j) (set firsts j 0) ≡ padded (suc j) 0 (map (numberIn ds) before)
+    unfolding knownBefore firstsBefore
     row =
         take-suc-set firsts j 0 roomF
         ∙ ap (λ l. l ++ 0 ∷ []) (c .placed)
-        ∙ sym (padded-suc 0 j (map (numberIn ds) before) (rw length-map before-length))
+        ∙ sym (padded-suc 0 j (map (numberIn ds) before) (rw length-map (known-few ds j below)))
 
     classed-known : numberIn before next < length before → Classed ds (suc j) (countNoted count class) (set numbers j class) (firstsNoted firsts count j class)
-    unfolding countNoted firstsNoted
+    unfolding knownBefore firstsBefore countNoted firstsNoted
     classed-known old =
         let other : class ≡ count → ⊥ = (λ e. let k = c .known in omega arith) in
         record {
@@ -89,12 +97,12 @@ module _ (ds : List (List ℤ)) (j : ℕ) (below : j < length ds) where
         }
 
     classed-new : length before ≤ numberIn before next → Classed ds (suc j) (countNoted count class) (set numbers j class) (firstsNoted firsts count j class)
-    unfolding countNoted firstsNoted
+    unfolding knownBefore firstsBefore countNoted firstsNoted
     classed-new new =
         let l = map (numberIn ds) before in
         let e : class ≡ count = (let k = c .known in let m = number-le before next in omega arith) in
         let grown : distinct (take (suc j) ds) ≡ before ++ next ∷ [] = learn-next ∙ learn-new before next new in
-        let few : count ≤ j = (let k = c .known in let b = before-length in omega arith) in
+        let few : count ≤ j = (let k = c .known in let b = known-few ds j below in omega arith) in
         record {
           known = rw (eq-eqb class count e) (ap (λ n. n + 1) (c .known) ∙ sym (ap length grown ∙ length-append before (next ∷ [])));
           numbered = numbered-next;
@@ -103,7 +111,7 @@ module _ (ds : List (List ℤ)) (j : ℕ) (below : j < length ds) where
               (take-set-lt (suc j) (set firsts j 0) count j (omega arith)
               ∙ ap (λ r. set r count j) row
               ∙ ap (λ n. set (padded (suc j) 0 l) n j) (c .known ∙ sym (length-map before (numberIn ds)))
-              ∙ set-padded 0 (suc j) l j (rw length-map (let b = before-length in omega arith))
+              ∙ set-padded 0 (suc j) l j (rw length-map (let b = known-few ds j below in omega arith))
               ∙ ap (λ k. padded (suc j) 0 (l ++ k ∷ [])) (sym (new-place new))
               ∙ ap (padded (suc j) 0) (sym (map-append (numberIn ds) before (next ∷ [])) ∙ ap (map (numberIn ds)) (sym grown)));
         }
@@ -112,20 +120,33 @@ module _ (ds : List (List ℤ)) (j : ℕ) (below : j < length ds) where
     pub classed-next : Classed ds (suc j) (countNoted count class) (set numbers j class) (firstsNoted firsts count j class)
     classed-next = known-or-new before next classed-known classed-new
 
--- The first places of the known classes, without the places behind them.
-pub known-places : (ds : List (List ℤ)) (j count : ℕ) (numbers firsts : List ℕ) → Classed ds j count numbers firsts → count ≤ j → take count firsts ≡ map (numberIn ds) (distinct (take j ds))
-known-places ds j count numbers firsts c few =
-    sym (take-take count j firsts few)
-    ∙ ap (take count) (c .placed)
-    ∙ ap (λ n. take n (padded j 0 places)) (c .known ∙ sym (length-map (distinct (take j ds)) (numberIn ds)))
-    ∙ take-padded 0 j places
-  where
-    places : List ℕ
-    places = map (numberIn ds) (distinct (take j ds))
+module _ (ds : List (List ℤ)) (j count : ℕ) (numbers firsts : List ℕ) (below : j < length ds) (c : Classed ds j count numbers firsts) where
+  -- The first places of the known classes, without the places behind them.
+  pub known-places : take count firsts ≡ firstsBefore ds j
+  unfolding knownBefore firstsBefore
+  known-places =
+      sym (take-take count j firsts (rw (c .known) (known-few ds j below)))
+      ∙ ap (take count) (c .placed)
+      ∙ ap (λ n. take n (padded j 0 places)) (c .known ∙ sym (length-map (distinct (take j ds)) (numberIn ds)))
+      ∙ take-padded 0 j places
+    where
+      places : List ℕ
+      places = map (numberIn ds) (distinct (take j ds))
+
+-- The latest class is that of the list just before.
+pub latest-is : (ds : List (List ℤ)) (j count : ℕ) (numbers firsts : List ℕ) → j < length ds → Classed ds j count numbers firsts → latestClass numbers j ≡ blockClass ds (j - 1)
+unfolding latestClass blockClass
+latest-is ds zero count numbers firsts below c = let m = class-most ds 0 below in let z = none-before ds in let e : 0 ≡ blockClass ds (0 - 1) = omega arith in e
+latest-is ds (suc before) count numbers firsts below c =
+    sym (getD-take (suc before) numbers before 0 (omega arith))
+    ∙ ap (λ l. getD l before 0) (c .numbered)
+    ∙ getD-map (numberIn (distinct ds)) (take (suc before) ds) before [] 0 (rw (length-take-le (suc before) ds (omega arith)) (omega arith))
+    ∙ ap (numberIn (distinct ds)) (getD-take (suc before) ds before [] (omega arith))
+    ∙ ap (blockClass ds) (let e : before ≡ suc before - 1 = omega arith in e)
 
 -- When all lists are classed, the rows are whole.
 pub all-classed : (ds : List (List ℤ)) (count : ℕ) (numbers firsts : List ℕ) → length numbers ≡ length ds → length firsts ≡ length ds → Classed ds (length ds) count numbers firsts → (count ≡ length (distinct ds)) × ((numbers ≡ numbersOf ds) × (firsts ≡ firstsOf (length ds) ds))
-unfolding numbersOf firstsOf
+unfolding knownBefore firstsBefore numbersOf firstsOf
 all-classed ds count numbers firsts eN eF c = (
   c .known ∙ ap (λ l. length (distinct l)) (take-length ds),
   (

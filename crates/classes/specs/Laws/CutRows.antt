@@ -22,9 +22,8 @@ use Rattle.blocks.specs.Laws.TryRows.{length-cut-tries}
 use Rattle.blocks.specs.Uses.{usesOf, classesAt, cutUses}
 use Rattle.blocks.specs.Inner.UseRows.{useRow, cutUseRow}
 use Rattle.blocks.specs.Laws.UseRows.{length-cut-uses, length-cut-use-row, classes-are}
-use Rattle.classes.specs.Inner.Block.{cutRows}
+use Rattle.classes.specs.Inner.Noting.{cutRows}
 use Rattle.classes.specs.Inner.Classing.{CutRoom, CutClassed}
-use Rattle.classes.specs.Inner.Placing.{CutPlaced}
 use Rattle.classes.specs.Inner.Searched.{SearchRoom}
 use Rattle.classes.specs.Inner.Searching.{partDifferences}
 
@@ -43,6 +42,15 @@ pub record CutAt (n h count size : ℕ) (table : List ℤ) (classRow firstRow tr
   pub cut : h ≤ n
   pub is-count : count ≡ 2 ^ h
   pub is-size : size ≡ 2 ^ (n - h)
+
+-- What the classing of cut h leaves in the rows of all cuts.
+pub record CutPlaced (n : ℕ) (table : List ℤ) (h : ℕ) (classRow firstRow triedRow usesRow useCountRow : List ℕ) (known : ℕ) (classRow′ firstRow′ triedRow′ usesRow′ useCountRow′ : List ℕ) : Type 0 where
+  pub counted : known ≡ classCount n table h
+  pub numbered : classRow′ ≡ overwritten classRow (cutPlace h) (cutNumbers n table h)
+  pub placed : firstRow′ ≡ overwritten firstRow (cutPlace h) (cutFirsts n table h)
+  pub tried : triedRow′ ≡ overwritten triedRow (cutPlace h) (cutTries n table h)
+  pub used : usesRow′ ≡ overwritten usesRow (cutPlace h) (cutUses n table h)
+  pub useCounted : useCountRow′ ≡ overwritten useCountRow (cutPlace h) (cutUseRow n table h)
 
 -- The parts of the rows that belong to the cut.
 module _ {n h count size : ℕ} {table : List ℤ} {classRow firstRow triedRow usesRow useCountRow : List ℕ} (k : CutAt n h count size table classRow firstRow triedRow usesRow useCountRow) where
@@ -85,14 +93,17 @@ module _ {n h count size : ℕ} {table : List ℤ} {classRow firstRow triedRow u
 
   pub cut-room : CutRoom table size (cutRows 0 (lent classRow) (lent firstRow) (lent triedRow) (lent usesRow) (lent useCountRow))
   cut-room = record {
-    whole = rows .whole ∙ sym (ap₂ _*_ (lent-length classRow within-classes ∙ is-count) is-size ∙ cut-whole n h cut);
+    cut = record {
+      some = rw is-size (pow-pos (n - h));
+      whole = rows .whole ∙ sym (ap₂ _*_ (lent-length classRow within-classes ∙ is-count) is-size ∙ cut-whole n h cut);
+      halved = rw (lent-length classRow within-classes, is-count) (halved h);
+    };
     alike = record {
       firstsAlike = lent-length firstRow within-firsts ∙ sym (lent-length classRow within-classes);
       triedAlike = lent-length triedRow within-tried ∙ sym (lent-length classRow within-classes);
       usesAlike = lent-length usesRow within-uses ∙ sym (lent-length classRow within-classes);
       useCountsAlike = lent-length useCountRow within-use-counts ∙ sym (lent-length classRow within-classes);
     };
-    halved = rw (lent-length classRow within-classes, is-count) (halved h);
   }
 
   -- A cut's row, back among those of all cuts.

@@ -4,20 +4,21 @@ use mathlib.Core.Path.{_≡_, sym, _∙_, ap}
 use mathlib.Core.List.{List, []}
 use native.Mathlib.Omega.{arith}
 use lib.ListN.{length, getD, take, length-map}
-use lib.Seq.{ext-getD, length-take-le, take-all}
+use lib.Seq.{ext-getD, getD-take, length-take-le, take-all}
 use lib.IntN.{ℤ}
 use Rattle.numbers.specs.Laws.Lists.{getD-map}
 use Rattle.blocks.specs.Classes.{numberIn, distinct}
 use Rattle.blocks.specs.Inner.Layout.{numbersOf}
-use Rattle.blocks.specs.Laws.Known.{number-le, number-when-met}
+use Rattle.blocks.specs.Laws.Known.{distinct-length}
 use Rattle.blocks.specs.Tries.{blockClass, knownBefore}
-use Rattle.blocks.specs.Laws.Latest.{known-since}
+use Rattle.blocks.specs.Laws.Latest.{class-most, known-since}
 use Rattle.blocks.specs.Uses.{useCount, usesAt}
 use Rattle.blocks.specs.Inner.UseRows.{useRow}
 use Rattle.blocks.specs.Laws.Counting.{uses-most, found-uses, row-next}
-use Rattle.blocks.specs.Laws.UseRows.{length-use-row, use-row-at}
-use Rattle.classes.specs.Inner.Block.{usesNoted}
+use Rattle.blocks.specs.Laws.UseRows.{length-run, run-at, length-use-row, use-row-at}
 use Rattle.classes.specs.Inner.Searching.{usesWith}
+use Rattle.classes.specs.Inner.Finding.{usesBefore}
+use Rattle.classes.specs.Inner.Noting.{usesNoted}
 
 pub length-numbers : (ds : List (List ℤ)) → length (numbersOf ds) ≡ length ds
 unfolding numbersOf
@@ -27,46 +28,64 @@ number-of : (ds : List (List ℤ)) (j : ℕ) → j < length ds → getD (numbers
 unfolding numbersOf blockClass
 number-of ds j below = getD-map (numberIn (distinct ds)) ds j [] 0 below
 
-module _ (ds : List (List ℤ)) (j : ℕ) (below : j < length ds) (count : ℕ) (known : count ≡ length (distinct (take j ds))) (few : count ≤ j) (useCounts : List ℕ) (room : j < length useCounts)
-    (so-far : (class : ℕ) → class < j → getD useCounts class 0 ≡ useCount (take j (numbersOf ds)) class) where
+module _ (ds : List (List ℤ)) (j : ℕ) (below : j < length ds) where
   below-numbers : j < length (numbersOf ds)
   below-numbers = rw length-numbers below
 
-  -- The classes of the blocks before are known.
-  seen : (i : ℕ) → i < j → getD (numbersOf ds) i 0 < count
+  -- No more classes are known than blocks were seen.
+  pub known-few : knownBefore ds j ≤ j
   unfolding knownBefore
-  seen i l = rw (number-of ds i (omega arith), known) (known-since ds i j l (omega arith))
+  known-few = let d = distinct-length (take j ds) in let t = length-take-le j ds (omega arith) in omega arith
 
-  -- No class has more uses than there are blocks.
-  pub uses-few : (class : ℕ) → class < count → getD useCounts class 0 ≤ j
+  -- The classes of the blocks before are known.
+  seen : (i : ℕ) → i < j → getD (numbersOf ds) i 0 < knownBefore ds j
+  seen i l = rw (number-of ds i (omega arith)) (known-since ds i j l (omega arith))
+
+  length-uses : length (usesBefore ds j) ≡ knownBefore ds j
+  unfolding usesBefore
+  length-uses = length-run (useCount (take j (numbersOf ds))) (knownBefore ds j)
+
+  use-at : (class : ℕ) → class < knownBefore ds j → getD (usesBefore ds j) class 0 ≡ useCount (take j (numbersOf ds)) class
+  unfolding usesBefore
+  use-at class l = run-at (useCount (take j (numbersOf ds))) (knownBefore ds j) class l
+
+  -- No class has more uses than there are blocks before.
+  pub uses-few : (class : ℕ) → class < length (usesBefore ds j) → getD (usesBefore ds j) class 0 ≤ j
   uses-few class l =
       let m = uses-most (take j (numbersOf ds)) class in
       let t = length-take-le j (numbersOf ds) (let b = below-numbers in omega arith) in
-      let s = so-far class (omega arith) in
+      let u = use-at class (rw length-uses at l) in
       omega arith
 
-  module _ (class : ℕ) (is : class ≡ numberIn (distinct (take j ds)) (getD ds j [])) where
-    as-numbered : class ≡ getD (numbersOf ds) j 0
-    unfolding blockClass
-    as-numbered = is ∙ sym (number-when-met ds j below) ∙ sym (number-of ds j below)
+  -- What the search answers for the next block.
+  pub uses-are : usesWith (usesBefore ds j) (blockClass ds j) ≡ usesAt (numbersOf ds) j
+  unfolding usesWith usesBefore
+  uses-are = found-uses (numbersOf ds) j (knownBefore ds j) below-numbers known-few seen (blockClass ds j) (sym (number-of ds j below)) (class-most ds j below)
 
-    pub class-inside : class ≤ count
-    class-inside = rw (is, known) (number-le (distinct (take j ds)) (getD ds j []))
+  module _ (useCountRow : List ℕ) (room : j < length useCountRow) (so-far : (class : ℕ) → class < j → getD useCountRow class 0 ≡ useCount (take j (numbersOf ds)) class) where
+    -- The use counts of the known classes stand in front.
+    pub known-uses : take (knownBefore ds j) useCountRow ≡ usesBefore ds j
+    known-uses =
+        ext-getD 0 (take (knownBefore ds j) useCountRow) (usesBefore ds j)
+        (front ∙ sym length-uses)
+        (λ class l.
+        let inside : class < knownBefore ds j = rw front at l in
+        getD-take (knownBefore ds j) useCountRow class 0 inside
+        ∙ so-far class (let f = known-few in omega arith)
+        ∙ sym (use-at class inside))
+      where
+        front : length (take (knownBefore ds j) useCountRow) ≡ knownBefore ds j
+        front = length-take-le (knownBefore ds j) useCountRow (let f = known-few in omega arith)
 
-    -- What the search answers for the next list.
-    pub uses-are : usesWith (take count useCounts) class ≡ usesAt (numbersOf ds) j
-    unfolding usesWith
-    uses-are = found-uses (numbersOf ds) j count below-numbers few seen class as-numbered class-inside useCounts room so-far
-
-    -- The use counts after it.
-    pub use-counts-next : (k : ℕ) → k < suc j → getD (usesNoted useCounts j class (usesWith (take count useCounts) class)) k 0 ≡ useCount (take (suc j) (numbersOf ds)) k
+    -- The use counts after the next block.
+    pub use-counts-next : (class : ℕ) → class < suc j → getD (usesNoted useCountRow j (blockClass ds j) (usesAt (numbersOf ds) j)) class 0 ≡ useCount (take (suc j) (numbersOf ds)) class
     unfolding usesNoted
-    use-counts-next k l = rw uses-are (row-next (numbersOf ds) j count below-numbers few seen class as-numbered class-inside useCounts room so-far k l)
+    use-counts-next class l = row-next (numbersOf ds) j (knownBefore ds j) below-numbers known-few seen (blockClass ds j) (sym (number-of ds j below)) (class-most ds j below) useCountRow room so-far class l
 
 -- When all lists are classed, the row is whole.
-pub all-counted : (ds : List (List ℤ)) (useCounts : List ℕ) → length useCounts ≡ length ds → ((class : ℕ) → class < length ds → getD useCounts class 0 ≡ useCount (take (length ds) (numbersOf ds)) class) → useCounts ≡ useRow (numbersOf ds)
-all-counted ds useCounts e each =
-    ext-getD 0 useCounts (useRow (numbersOf ds))
+pub all-counted : (ds : List (List ℤ)) (useCountRow : List ℕ) → length useCountRow ≡ length ds → ((class : ℕ) → class < length ds → getD useCountRow class 0 ≡ useCount (take (length ds) (numbersOf ds)) class) → useCountRow ≡ useRow (numbersOf ds)
+all-counted ds useCountRow e each =
+    ext-getD 0 useCountRow (useRow (numbersOf ds))
     (e ∙ sym (length-use-row (numbersOf ds) ∙ length-numbers ds))
     (λ class l.
     let inside : class < length ds = rw e at l in

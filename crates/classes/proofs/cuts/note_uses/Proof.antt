@@ -1,11 +1,11 @@
--- `classing::note_uses` meets its contract. Assumes nothing.
+-- `cuts::note_uses` meets its contract. Assumes nothing.
 use mathlib.Core.Path.{refl}
 use native.Mathlib.Omega.{arith}
 use lib.ListN.{length-set}
 use borrow.Author.Needs.{needs}
-use Rattle.classes.specs.Inner.Block.{usesNoted}
-use Rattle.classes.proofs.classing.note_uses.Statement.{statement}
-use Rattle.classes.proofs.classing.note_uses.Tie as tie
+use Rattle.classes.specs.Inner.Noting.{usesNoted}
+use Rattle.classes.proofs.cuts.note_uses.Statement.{statement}
+use Rattle.classes.proofs.cuts.note_uses.Tie as tie
 
 mul-use-counts : tie.Need-mul-use-counts
 mul-use-counts c = search needs

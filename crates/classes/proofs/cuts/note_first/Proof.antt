@@ -1,12 +1,12 @@
--- `classing::note_first` meets its contract. Assumes nothing.
+-- `cuts::note_first` meets its contract. Assumes nothing.
 use mathlib.Core.Path.{refl}
 use native.Mathlib.Omega.{arith}
 use lib.ListN.{length-set}
 use borrow.Author.Tests.{eq-eqb, ne-eqb}
-use Rattle.classes.specs.Inner.Block.{countNoted, firstsNoted}
+use Rattle.classes.specs.Inner.Noting.{countNoted, firstsNoted}
 use borrow.Author.Needs.{needs}
-use Rattle.classes.proofs.classing.note_first.Statement.{statement}
-use Rattle.classes.proofs.classing.note_first.Tie as tie
+use Rattle.classes.proofs.cuts.note_first.Statement.{statement}
+use Rattle.classes.proofs.cuts.note_first.Tie as tie
 
 mul-firsts : tie.Need-mul-firsts
 mul-firsts c = search needs

@@ -1,11 +1,11 @@
--- `classing::latest_class` meets its contract. Assumes nothing.
+-- `cuts::latest_class` meets its contract. Assumes nothing.
 use Prim.Native.Nat.{suc, _-_}
 use mathlib.Core.Path.{_≡_, sym, ap}
 use native.Mathlib.Omega.{arith}
-use Rattle.classes.specs.Inner.Block.{latestClass}
+use Rattle.classes.specs.Inner.Noting.{latestClass}
 use borrow.Author.Needs.{needs}
-use Rattle.classes.proofs.classing.latest_class.Statement.{statement}
-use Rattle.classes.proofs.classing.latest_class.Tie as tie
+use Rattle.classes.proofs.cuts.latest_class.Statement.{statement}
+use Rattle.classes.proofs.cuts.latest_class.Tie as tie
 
 returns : tie.Need-returns
 unfolding latestClass

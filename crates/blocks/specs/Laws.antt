@@ -13,4 +13,6 @@ pub mod Latest
 pub mod Places
 pub mod Searching
 pub mod TryRows
+pub mod SearchTheorems
 pub mod UseRows
+pub mod UseTheorems

@@ -10,4 +10,5 @@ pub mod Cells
 pub mod Lengths
 pub mod Planned
 pub mod WellFormed
+pub mod Theorems
 pub mod WordReading

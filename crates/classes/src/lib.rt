@@ -62,8 +62,8 @@ pub fn class_table(
     ensures { λ r. ⌜ AllClassed n (now (table .entry)) (now (classes .exit)) (now (firsts .exit)) (now (counts .exit)) ⌝ }
     ensures { λ r. ⌜ now («use_counts» .exit) ≡ allUseRows n (now (table .entry)) ⌝ }
 {
-    let mut tried = [0usize; 8191];
-    let mut uses = [0usize; 8191];
+    let mut tried = [0usize; blocks::ALL_PLACES];
+    let mut uses = [0usize; blocks::ALL_PLACES];
     let places = classes.len();
     class_cuts(
         n,

@@ -8,4 +8,5 @@ pub mod Items
 pub mod Values
 pub mod Tables
 pub mod Conditions
+pub mod Theorems
 pub mod Written

@@ -1,6 +1,6 @@
 -- What holds of every text.
 use Prim.Native.Nat.{ℕ, _^_, _≤_}
-use mathlib.Core.Path.{_≡_, subst}
+use mathlib.Core.Path.{_≡_}
 use mathlib.Core.Logic.{_↔_}
 use mathlib.Core.Bool.{true}
 use mathlib.Core.List.{List}
@@ -11,8 +11,8 @@ use Rattle.numbers.specs.Ranges.{within}
 use Rattle.decimal.specs.Table.{Read, got, Table, textRead}
 use Rattle.decimal.specs.Text.{tableText}
 use Rattle.decimal.specs.Conditions.{Condition}
-use Rattle.decimal.specs.Laws.Conditions.{condition-holds, condition-gives}
 use Rattle.decimal.specs.Laws.Written.{table-back}
+use Rattle.decimal.specs.Laws.Theorems as proved
 
 -- Every table that a text can give is read back from its own text: n from 1 to 12, a limit of one byte, and 2^n values of 32 bits.
 pub written-read : (table : Table) → 1 ≤ table .n → table .n ≤ 12 → table .limit ≤ 255 → length (table .values) ≡ 2 ^ table .n
@@ -21,4 +21,4 @@ written-read = table-back
 
 -- A text gives a table, or each refusal, exactly where its condition holds.
 pub given-exactly : (text : List ℕ) (read : Read Table) → (textRead text ≡ read) ↔ Condition text read
-given-exactly text read = (λ e. subst (Condition text) e (condition-holds text), condition-gives text read)
+given-exactly = proved.given-exactly

@@ -1,11 +1,11 @@
 -- What the table compiler as a whole is trusted for: the demands, sentence by sentence, over the definitions that the contracts name.
 use Prim.Native.Nat.{ℕ, _^_, _<_, suc, _+_, _-_, _%_, _≤_}
-use mathlib.Core.Path.{_≡_, sym, _∙_, ap}
+use mathlib.Core.Path.{_≡_}
 use mathlib.Core.Logic.{_↔_}
 use mathlib.Core.Bool.{true}
 use mathlib.Core.List.{List, _++_, map, [], _∷_, flatMap}
 use lib.ListN.{length, drop, replicate, getD}
-use lib.IntN.{ℤ, pos, negℤ, _+ℤ_, _-ℤ_, _*ℤ_}
+use lib.IntN.{ℤ, pos, negℤ, _+ℤ_}
 use Rattle.numbers.specs.Answers.{Answer, accepted, refused}
 use Rattle.numbers.specs.Lists.{padded}
 use Rattle.diagram.specs.Accepted.{written, Accepted, nodeFunction}
@@ -25,18 +25,17 @@ use Rattle.demands.specs.Laws.Checks.{not-all-hold, one-failure}
 use Rattle.demands.specs.Laws.Diagram.{decided-build, decided-walk, build-value, build-buffer, walk-value}
 use Rattle.demands.specs.Laws.Cascade.{fitting-tests, decided-plan, decided-compile, best-exists, one-best, plan-value, plan-arrays, plan-arrays-refused, compile-value, compile-cells, compile-cells-refused, compile-buffer, compile-kept}
 use Rattle.demands.specs.Laws.Image.{decided-run, decided-expand, run-value, expand-value}
-use native.Mathlib.Nat.{one-mul}
-use native.Mathlib.Numerals.{add-one}
 use lib.Signed.{_≤ℤ_}
 use Rattle.numbers.specs.Ranges.{isLimit}
 use Rattle.blocks.specs.Blocks.{block, differences}
 use Rattle.diagram.specs.Bound.{jumps, risingKinds, nodeBound}
-use Rattle.diagram.specs.Records.{node, records, nodeCount}
+use Rattle.diagram.specs.Records.{node, records}
 use Rattle.diagram.specs.NodeBound as bounds
 use Rattle.image.specs.Commands.{cellCommands}
 use Rattle.image.specs.Reader.{reading}
 use Rattle.image.specs.declared.Command.the-variants as commands
 use Rattle.cascade.specs.Theorems as cascades
+use Rattle.demands.specs.Laws.Demands as proved
 
 -- Demand 1. No admitted call is turned away, each gets its answer, and every other call gets one number, that of the first check that
 -- fails; what a refused call was lent stays as it was.
@@ -164,11 +163,11 @@ module _ (n : ℕ) (table : List ℤ) (admitted : Accepted n table) where
   -- Every record stands for a block whose height is its variable plus 1.
   pub every-record-has-a-block : (k : ℕ) → 1 ≤ k → k ≤ length (records n table)
       → (i : ℕ) × (j : ℕ) × (i < n) × (j < 2 ^ (n - suc i)) × (variableAt (written n table) k ≡ pos i) × ((x : ℕ) → nodeFunction n table k x ≡ getD (differences (block table (suc i) j)) (x % 2 ^ suc i) (pos 0))
-  every-record-has-a-block = diagrams.each-record-has-block n table admitted
+  every-record-has-a-block = proved.every-record-has-a-block n table admitted
 
   -- The diagram is reduced: no record has equal children and weight 0, and no two nodes stand for one function.
   pub no-record-is-redundant : (k : ℕ) → 1 ≤ k → k ≤ length (records n table) → ¬ ((lowAt (written n table) k ≡ highAt (written n table) k) × (weightAt (written n table) k ≡ pos 0))
-  no-record-is-redundant = diagrams.no-redundant-record n table admitted
+  no-record-is-redundant = proved.no-record-is-redundant n table admitted
 
   pub no-two-nodes-are-alike : (j k : ℕ) → j ≤ length (records n table) → k ≤ length (records n table) → ((x : ℕ) → x < 2 ^ n → nodeFunction n table j x ≡ nodeFunction n table k x) → j ≡ k
   no-two-nodes-are-alike = diagrams.no-two-nodes-alike n table admitted
@@ -225,17 +224,12 @@ module _ (n : ℕ) (table : List ℤ) (limit : ℕ) (buffer : List ℕ) (r : Ima
 -- Build's is the same.
 module _ (n : ℕ) (table : List ℤ) (room : ℕ) (s : Summary) (built : buildAnswer n table room ≡ accepted s) where
   pub build-counts-the-nodes : s .nodes ≡ length (records n table) + 1
-  unfolding nodeCount
-  build-counts-the-nodes = ap (λ t. t .nodes) (diagrams.build-answers n table room s built) ∙ sym (add-one (length (records n table)))
+  build-counts-the-nodes = proved.build-counts-the-nodes n table room s built
 
   pub build-nodes-within-the-bound : (p l : ℕ) → 1 ≤ l → l ≤ n → pos (s .nodes) ≤ℤ nodeBound n table p l
   build-nodes-within-the-bound = bounds.build-bound n table room s built
 
-less-one-times : (l : ℕ) → (pos 0 -ℤ pos 1) *ℤ pos l ≡ negℤ (pos l)
-less-one-times l = ap (λ k. negℤ (pos k)) (one-mul l)
-
 -- The bound as the paper's formula has it: k, the jumps, counts every adjacent pair whose step falls or exceeds p, and without a jump the
 -- last part takes l away.
 pub the-bound-without-jumps : (n : ℕ) (table : List ℤ) (p l : ℕ) → jumps n table p ≡ 0 → nodeBound n table p l ≡ pos (2 ^ (n - l) + risingKinds p l) +ℤ negℤ (pos l)
-unfolding nodeBound
-the-bound-without-jumps n table p l e = ap (λ k. pos (2 ^ (n - l) + risingKinds p l) +ℤ (pos k -ℤ pos 1) *ℤ pos l) e ∙ ap (λ z. pos (2 ^ (n - l) + risingKinds p l) +ℤ z) (less-one-times l)
+the-bound-without-jumps = proved.the-bound-without-jumps

@@ -3,4 +3,5 @@ pub mod Checks
 pub mod Clients
 pub mod Diagram
 pub mod Cascade
+pub mod Demands
 pub mod Image

@@ -14,6 +14,7 @@ pub mod CutRecords
 pub mod AllRecords
 pub mod Forks
 pub mod NodeCount
+pub mod NodeBound
 pub mod RecordBlocks
 pub mod Steps
 pub mod Edges
@@ -23,3 +24,4 @@ pub mod Reduced
 pub mod Fits
 pub mod Walks
 pub mod SameRecords
+pub mod Theorems

@@ -1,32 +1,24 @@
 -- The node bound of the demands, for every table, every p and every l from 1 to n.
 use Prim.Native.Nat.{ℕ, _+_, _-_, _*_, _^_, _≤_}
-use mathlib.Core.Path.{_≡_, ap}
+use mathlib.Core.Path.{_≡_}
 use mathlib.Core.List.{List}
-use native.Mathlib.Omega.{arith}
 use lib.ListN.{length}
 use lib.IntN.{ℤ, pos}
 use lib.Signed.{_≤ℤ_}
-use Rattle.numbers.specs.Laws.Order.{le-less-one-times}
 use Rattle.numbers.specs.Answers.{accepted}
 use Rattle.diagram.specs.Records.{nodeCount}
 use Rattle.diagram.specs.Build.{Summary, buildAnswer}
 use Rattle.diagram.specs.Bound.{jumps, risingKinds, nodeBound}
-use Rattle.diagram.specs.Laws.Counting.Heights.{low-heights, above-height}
-use Rattle.diagram.specs.Laws.Builds.{build-admits, build-summary}
-use Rattle.diagram.specs.Laws.NodeCount.{node-count}
+use Rattle.diagram.specs.Laws.NodeBound as proved
 
 -- Over the natural numbers, without subtraction: the node count and l are at most 2^(n-l) + (sum over i = 1..l of (p+1)^(2^i - 1)) + k·l.
 pub node-bound-natural : (n : ℕ) (table : List ℤ) → length table ≡ 2 ^ n → (p l : ℕ) → 1 ≤ l → l ≤ n → nodeCount n table + l ≤ 2 ^ (n - l) + risingKinds p l + jumps n table p * l
-node-bound-natural n table whole p l from-one to-n =
-    omega (arith, node-count n table, low-heights n table p whole l to-n, above-height n table l to-n)
+node-bound-natural = proved.node-bound-natural
 
 -- The node count is at most 2^(n-l) + (sum over i = 1..l of (p+1)^(2^i - 1)) + (k-1)·l; where k is 0, the last part is -l.
 pub node-bound : (n : ℕ) (table : List ℤ) → length table ≡ 2 ^ n → (p l : ℕ) → 1 ≤ l → l ≤ n → pos (nodeCount n table) ≤ℤ nodeBound n table p l
-unfolding nodeBound
-node-bound n table whole p l from-one to-n =
-    le-less-one-times (nodeCount n table) (2 ^ (n - l) + risingKinds p l) (jumps n table p) l (node-bound-natural n table whole p l from-one to-n)
+node-bound = proved.node-bound
 
 -- So is the node count that Build answers.
 pub build-bound : (n : ℕ) (table : List ℤ) (room : ℕ) (s : Summary) → buildAnswer n table room ≡ accepted s → (p l : ℕ) → 1 ≤ l → l ≤ n → pos (s .nodes) ≤ℤ nodeBound n table p l
-build-bound n table room s e p l from-one to-n =
-    rw (ap (λ t. t .nodes) (build-summary n table room s e)) (node-bound n table (build-admits n table room s e .0 .size) p l from-one to-n)
+build-bound = proved.build-bound

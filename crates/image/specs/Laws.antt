@@ -16,4 +16,5 @@ pub mod Running
 pub mod Words
 pub mod Refusals
 pub mod ReadingFor
+pub mod Theorems
 pub mod Written

@@ -1,6 +1,6 @@
 -- What holds of images, of Run and of Expand, for every image, card and X.
 use Prim.Native.Nat.{ℕ, suc, _^_, _≤_, _<_}
-use mathlib.Core.Path.{_≡_, sym, _∙_, ap}
+use mathlib.Core.Path.{_≡_}
 use mathlib.Core.Bool.{true, false}
 use mathlib.Core.List.{List, [], _∷_, _++_, flatMap}
 use mathlib.Core.Logic.{_↔_}
@@ -9,7 +9,6 @@ use lib.IntN.{ℤ, pos}
 use lib.Signed.{ltZ}
 use Rattle.numbers.specs.Answers.{accepted, refused, mapAnswer}
 use Rattle.numbers.specs.Ranges.{isVariables, isValue}
-use Rattle.numbers.specs.Theorems.{unsigned-spares-one, signed-stays}
 use Rattle.numbers.specs.Widths.{weightWidth}
 use Rattle.operands.specs.Bytes.{AreBytes}
 use Rattle.image.specs.Cells.{Cell, Card}
@@ -20,14 +19,15 @@ use Rattle.image.specs.Run.{runCard, run, cardValues, expand, expandBuff
 use Rattle.image.specs.WellFormed.{weights, WellFormed}
 use Rattle.image.specs.Laws.Cards.{card-of}
 use Rattle.image.specs.Laws.Images.{image-of-commands, commands-of-card, image-of-card, card-keeps}
-use Rattle.image.specs.Laws.OtherWidths.{other-width, older-image, older-stays}
-use Rattle.image.specs.Laws.ReadingFor.{reading-first-refused, first-refused, other-n, own-n, for-accepted, for-number}
-use Rattle.image.specs.Laws.Refusals.{OfImage, reading-number, run-refuses, expand-refuses, buffer-accepted, buffer-refused}
+use Rattle.image.specs.Laws.OtherWidths.{other-width, older-image}
+use Rattle.image.specs.Laws.ReadingFor.{other-n, own-n, for-accepted}
+use Rattle.image.specs.Laws.Refusals.{run-refuses, expand-refuses, buffer-accepted, buffer-refused}
 use Rattle.image.specs.Laws.Running.{run-refused, expand-refused}
-use Rattle.image.specs.Laws.Words.{card-words, run-of-card, expand-entry}
+use Rattle.image.specs.Laws.Words.{expand-entry}
 use Rattle.image.specs.Laws.Written.{image-read, image-run, image-expand}
 use Rattle.image.specs.declared.Command.{Command}
 use Rattle.image.specs.declared.Command.the-variants as commands
+use Rattle.image.specs.Laws.Theorems as proved
 
 -- ---- an accepted image
 
@@ -48,18 +48,17 @@ module _ (image : List ℕ) (commands : List Command) (h : reading image ≡ acc
 
   -- Run answers at every X below 2^n, with one word read for each cell.
   pub accepted-run : (x : ℕ) → x < 2 ^ cardOf commands .n → (run image x ≡ accepted (runCard (cardOf commands) x)) × (runCard (cardOf commands) x .words ≡ length (cardOf commands .cells))
-  accepted-run x l = (run-of-card image commands h x l, card-words (cardOf commands) x)
+  accepted-run = proved.accepted-run image commands h
 
 -- Two images that are read as the same commands are one.
 pub same-commands : (first second : List ℕ) (commands : List Command) → AreBytes first → AreBytes second → reading first ≡ accepted commands → reading second ≡ accepted commands → first ≡ second
-same-commands first second commands f s p q = image-of-commands first commands p f ∙ sym (image-of-commands second commands q s)
+same-commands = proved.same-commands
 
 -- ---- refusals
 
 -- An image is refused with 11, 12, 13 or 14, and Run and Expand hand that on.
 pub image-refused : (image : List ℕ) (k : ℕ) → reading image ≡ refused k → (11 ≤ k) × (k ≤ 14)
-unfolding OfImage
-image-refused = reading-number
+image-refused = proved.image-refused
 
 pub run-hands-on : (image : List ℕ) (k : ℕ) → reading image ≡ refused k → (x : ℕ) → run image x ≡ refused k
 run-hands-on image k h x = run-refused image x k h
@@ -114,12 +113,11 @@ module _ (n : ℕ) (image : List ℕ) where
 
   -- What is wrong with the first command is told as ever: no byte there, another command, operands cut off, an operand out of range.
   pub first-command-refused : (k : ℕ) → step image start ≡ refused k → (reading image ≡ refused k) × (readingFor n image ≡ refused k)
-  first-command-refused k h = (reading-first-refused image k h, first-refused n image k h)
+  first-command-refused = proved.first-command-refused n image
 
   -- Its refusals are the reader's.
   pub read-for-refused : (k : ℕ) → readingFor n image ≡ refused k → (11 ≤ k) × (k ≤ 14)
-  unfolding OfImage
-  read-for-refused = for-number n image
+  read-for-refused = proved.read-for-refused n image
 
 module _ (n : ℕ) (offset : ℤ) (variables : isVariables n ≡ true) (value : isValue offset ≡ true) (rest : List ℕ) where
   -- An image that begins with another n is 13, whatever bytes follow its first command, or none.
@@ -144,12 +142,10 @@ module _ (cell : Cell) where
   own = weights (cell .words)
 
   pub older-width-same : (i : ℕ) → i < length own → ltZ (getD own i (pos 0)) (pos 0) ≡ true → olderWidth cell ≡ weightWidth own
-  unfolding olderWidth
-  older-width-same i inside negative = sym (signed-stays own i inside negative)
+  older-width-same = proved.older-width-same cell
 
   pub older-width-one-more : ((j : ℕ) → j < length own → ltZ (getD own j (pos 0)) (pos 0) ≡ false) → (weightWidth own ≡ 0 → ⊥) → olderWidth cell ≡ suc (weightWidth own)
-  unfolding olderWidth
-  older-width-one-more plain some = unsigned-spares-one own plain some
+  older-width-one-more = proved.older-width-one-more cell
 
 -- An older image, in which some cell has another width by the older rule, is refused with 13, by Run at every X and by Expand.
 module _ (card : Card) (w : WellFormed card) (before : List Cell) (cell : Cell) (after : List Cell) (parts : card .cells ≡ before ++ cell ∷ after) (other : olderWidth cell ≡ cell .width → ⊥) where
@@ -161,4 +157,4 @@ module _ (card : Card) (w : WellFormed card) (before : List Cell) (cell : Cell) 
 
 -- One in which none has is the card's own image.
 pub older-image-stays : (card : Card) → ((before : List Cell) (cell : Cell) (after : List Cell) → card .cells ≡ before ++ cell ∷ after → olderWidth cell ≡ cell .width) → imageOf (olderCard card) ≡ imageOf card
-older-image-stays card h = ap imageOf (older-stays card h)
+older-image-stays = proved.older-image-stays

@@ -5,5 +5,6 @@ pub mod Listed
 pub mod Shown
 pub mod Lengths
 pub mod Texts
+pub mod Theorems
 pub mod Values
 pub mod Inputs

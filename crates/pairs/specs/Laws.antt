@@ -2,3 +2,5 @@
 pub mod Indices
 pub mod Answers
 pub mod Compiled
+pub mod TableTheorems
+pub mod Theorems

@@ -11,12 +11,13 @@ use Rattle.numbers.specs.Ranges.{isVariables, isValue}
 use Rattle.image.specs.Commands.{commandBytes, cardOf}
 use Rattle.image.specs.Reader.{step, start, reading, readingFor}
 use Rattle.image.specs.Run.{Result, run}
-use Rattle.image.specs.Theorems.{first-command-refused, another-n-refused, run-hands-on}
+use Rattle.image.specs.Theorems.{another-n-refused}
 use Rattle.image.specs.declared.Command.{Command}
 use Rattle.image.specs.declared.Command.the-variants.{Table}
 use Rattle.pairs.specs.Pairs.{pairIndex, pairRun}
-use Rattle.pairs.specs.Laws.Answers.{bits-inside, image-refused, call-accepted, accepted-call, accepted-run-answer, accepted-words, refused-bits, refused-seventeen, not-seven, run-throughout}
-use Rattle.pairs.specs.Laws.Indices.{index-below, index-row, index-column, index-back, row-below, column-below}
+use Rattle.pairs.specs.Laws.Answers.{bits-inside, image-refused, accepted-run-answer, accepted-words, refused-bits, refused-seventeen, not-seven, run-throughout}
+use Rattle.pairs.specs.Laws.Indices.{index-below}
+use Rattle.pairs.specs.Laws.Theorems as proved
 
 -- ---- the index of a pair
 
@@ -26,18 +27,18 @@ index-inside = index-below
 
 -- Its upper m bits are X, its lower m bits are Y, so no two pairs have one index.
 pub index-tells : (m x y : ℕ) → y < 2 ^ m → (pairIndex m x y / 2 ^ m ≡ x) × (pairIndex m x y % 2 ^ m ≡ y)
-index-tells m x y h = (index-row m x y h, index-column m x y h)
+index-tells = proved.index-tells
 
 -- Every number of 2m bits is the index of a pair.
 pub index-of-some : (m z : ℕ) → z < 2 ^ (2 * m) → (x : ℕ) × (y : ℕ) × (x < 2 ^ m) × (y < 2 ^ m) × (pairIndex m x y ≡ z)
-index-of-some m z h = (z / 2 ^ m, z % 2 ^ m, row-below m z h, column-below m z, index-back m z)
+index-of-some = proved.index-of-some
 
 -- ---- which calls are answered
 
 module _ (m : ℕ) (image : List ℕ) (x y : ℕ) where
   -- Exactly those with m from 1 to 6, an accepted image whose n is 2m, and X and Y below 2^m.
   pub pair-run-accepts : ((1 ≤ m) × (m ≤ 6) × ((commands : List Command) × (reading image ≡ accepted commands) × (cardOf commands .n ≡ 2 * m)) × (x < 2 ^ m) × (y < 2 ^ m)) ↔ ((r : Result) × (pairRun m image x y ≡ accepted r))
-  pair-run-accepts = (call-accepted m image x y, accepted-call m image x y)
+  pair-run-accepts = proved.pair-run-accepts m image x y
 
   module _ (r : Result) (e : pairRun m image x y ≡ accepted r) where
     -- The answer is Run's at the pair's index, words read included.
@@ -62,7 +63,7 @@ module _ (m : ℕ) (image : List ℕ) (x y : ℕ) where
 
     -- What is wrong with its first command is told as by Run.
     pub first-command-as-ever : (k : ℕ) → step image start ≡ refused k → (run image (pairIndex m x y) ≡ refused k) × (pairRun m image x y ≡ refused k)
-    first-command-as-ever k h = let both = first-command-refused (2 * m) image k h in (run-hands-on image k (both .0) (pairIndex m x y), image-next k (both .1))
+    first-command-as-ever = proved.first-command-as-ever m image x y some most
 
   -- 17, in the place of 7, exactly where all that is good and X or Y is not below 2^m.
   pub seventeen-last : (pairRun m image x y ≡ refused 17) ↔ ((1 ≤ m) × (m ≤ 6) × ((commands : List Command) × (reading image ≡ accepted commands) × (cardOf commands .n ≡ 2 * m)) × (¬ ((x < 2 ^ m) × (y < 2 ^ m))))

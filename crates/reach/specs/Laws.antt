@@ -8,3 +8,4 @@ pub mod Rails
 pub mod Reached
 pub mod Beside
 pub mod Reaching
+pub mod Theorems

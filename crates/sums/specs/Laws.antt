@@ -9,3 +9,4 @@ pub mod Diagrams
 pub mod Extremes
 pub mod Summable
 pub mod Filling
+pub mod Theorems

@@ -1,7 +1,6 @@
 -- What is proved of the definitions of this crate; a file stands behind those whose laws it cites.
 pub mod Blocks
 pub mod Commonest
-pub mod Counting
 pub mod Differences
 pub mod Order
 pub mod Same
@@ -15,4 +14,5 @@ pub mod Searching
 pub mod TryRows
 pub mod SearchTheorems
 pub mod UseRows
+pub mod Counting
 pub mod UseTheorems

@@ -6,11 +6,10 @@ use lib.ListN.{length, getD, take}
 use lib.IntN.{ℤ}
 use Rattle.blocks.specs.Blocks.{blocks, differences}
 use Rattle.blocks.specs.Classes.{numberIn, distinct}
-use Rattle.blocks.specs.Inner.Layout.{cutNumbers, cutPlace}
+use Rattle.blocks.specs.Rows.{cutNumbers, cutPlace, allTries}
 use Rattle.blocks.specs.Laws.Known.{own-distinct}
 use Rattle.blocks.specs.Searching.{foundIn, comparedIn, OrderOf}
 use Rattle.blocks.specs.Tries.{lookOrder, numberTried, blockClass, knownBefore, triedAt, cutTries}
-use Rattle.blocks.specs.Inner.TryRows.{allTries}
 use Rattle.blocks.specs.Laws.Order.{order-length, first-turn, turn-above, tried-in}
 use Rattle.blocks.specs.Laws.Searching.{found-in}
 use Rattle.blocks.specs.Laws.SearchTheorems as proved

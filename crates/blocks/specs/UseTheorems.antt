@@ -7,10 +7,9 @@ use lib.IntN.{ℤ}
 use Rattle.numbers.specs.Lists.{sumOf}
 use Rattle.blocks.specs.Blocks.{block}
 use Rattle.blocks.specs.Classes.{classCount}
-use Rattle.blocks.specs.Inner.Layout.{cutPlace}
+use Rattle.blocks.specs.Rows.{cutPlace, allUses, allUseRows}
 use Rattle.blocks.specs.Uses.{useCount, usesAt, classesAt, useCounts, commonest, commonestAt}
 use Rattle.blocks.specs.declared.Common.{Common}
-use Rattle.blocks.specs.Inner.UseRows.{allUses, allUseRows}
 use Rattle.blocks.specs.Laws.UseTheorems as proved
 
 -- ---- blocks given by their classes

@@ -7,7 +7,7 @@ use Rattle.numbers.specs.Lists.{numbersFrom, keep}
 use Rattle.numbers.specs.Ranges.{eqZ}
 use Rattle.blocks.specs.Blocks.{block, blocks, first, differences}
 use Rattle.blocks.specs.Classes.{same, numberIn, learn, learnAll, distinct}
-use Rattle.blocks.specs.Inner.Layout.{numbersOf, cutNumbers}
+use Rattle.blocks.specs.Rows.{numbersOf, cutNumbers}
 use Rattle.blocks.specs.Tries.{lookOrder, lookedUntil, numberTried, blockClass, knownBefore, triedAt, triesOf, cutTries}
 
 -- A cut of a table, with the class and the number tried for each of its blocks.

@@ -6,7 +6,7 @@ ghost use mathlib.Core.Path.{_≡_};
 ghost use Prim.Native.Nat.{_+_, _*_, _^_, _<_};
 ghost use lib.ListN.{length, getD};
 ghost use Rattle.blocks.specs.Blocks.{block, first};
-ghost use Rattle.blocks.specs.Inner.Layout.{cutPlace};
+ghost use Rattle.blocks.specs.Rows.{cutPlace};
 
 // The cuts of the largest table.
 pub const ALL_CUTS: usize = numbers::MOST_VARIABLES + 1;

@@ -2,7 +2,7 @@
 ghost use mathlib.Core.Path.{_≡_};
 ghost use Prim.Native.Nat.{_+_, _-_, _<_};
 ghost use lib.ListN.{length, set};
-ghost use Rattle.blocks.specs.Inner.Layout.{cutPlace};
+ghost use Rattle.blocks.specs.Rows.{cutPlace};
 ghost use Rattle.diagram.specs.Inner.Building.{Forking, RecordRoom, ClassPlaced, CutReady, CutRecorded};
 
 // Number k of cut h in a row of all cuts is set.

@@ -1,6 +1,6 @@
 // The words of a cell, read off the table and the classes of its cuts.
 ghost use mathlib.Core.Path.{_≡_};
-ghost use Rattle.blocks.specs.Inner.Layout.{allNumbers};
+ghost use Rattle.blocks.specs.Rows.{allNumbers};
 ghost use Rattle.cascade.specs.Inner.Words.{cellWord, wordBlock, BlockReady, WordReady};
 
 // The block at cut h + g that word k of the cell from cut h stands for.

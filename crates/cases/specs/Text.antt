@@ -5,9 +5,9 @@ use mathlib.Core.Bool.{true, false}
 use mathlib.Core.List.{List, [], _∷_}
 use lib.ListN.{length}
 use lib.IntN.{ℤ}
-use Rattle.numbers.specs.Inner.Rows.{overwritten}
+use Rattle.numbers.specs.Lists.{overwritten}
 use Rattle.decimal.specs.Words.{isNewline, words}
-use Rattle.decimal.specs.Inner.Values.{valuesFound}
+use Rattle.decimal.specs.Table.{valuesFound}
 
 -- How many bytes the first line has, its newline included.
 unfoldable pub lineLength : List ℕ → ℕ

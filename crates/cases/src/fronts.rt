@@ -4,7 +4,7 @@ ghost use mathlib.Core.List.{map};
 ghost use Prim.Native.Nat.{_≤_};
 ghost use lib.ListN.{length};
 ghost use lib.IntN.{pos};
-ghost use Rattle.numbers.specs.Inner.Rows.{overwritten};
+ghost use Rattle.numbers.specs.Lists.{overwritten};
 ghost use Rattle.cases.specs.Rows.{byteOf, numberLent, byteLent, frontHolds, sizesAre};
 
 // What a lent row of numbers holds before the call.

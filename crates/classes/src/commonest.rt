@@ -2,9 +2,9 @@
 ghost use mathlib.Core.Path.{_≡_};
 ghost use Prim.Native.Nat.{_+_, _≤_, _<_};
 ghost use lib.ListN.{length};
-ghost use Rattle.blocks.specs.Inner.Layout.{cutPlace};
+ghost use Rattle.blocks.specs.Rows.{cutPlace};
 ghost use Rattle.blocks.specs.Uses.{commonest};
-ghost use Rattle.blocks.specs.Inner.UseRows.{inCut};
+ghost use Rattle.blocks.specs.Inner.Layout.{inCut};
 use blocks::Common;
 
 // The class with the greatest use count, the smallest number on a tie; class 0 with 0 where there is none.

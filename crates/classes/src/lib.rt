@@ -7,8 +7,8 @@ mod search;
 ghost use mathlib.Core.Path.{_≡_};
 ghost use Prim.Native.Nat.{suc};
 ghost use lib.ListN.{length};
-ghost use Rattle.blocks.specs.Inner.Layout.{cutPlace, CutsRoom, AllClassed};
-ghost use Rattle.blocks.specs.Inner.UseRows.{allUseRows};
+ghost use Rattle.blocks.specs.Rows.{cutPlace, allUseRows};
+ghost use Rattle.blocks.specs.Inner.Layout.{CutsRoom, AllClassed};
 ghost use Rattle.classes.specs.Inner.Searched.{SearchRoom, AllSearched};
 
 // The classes of all cuts: each block's class, each class's first block, the class count of each cut, and what the search tells of

@@ -98,3 +98,9 @@ parsedBuffer (wrong line expected) buffer = buffer
 pub record Reads (text buffer : List ℕ) (answer : Parsed) (buffer′ : List ℕ) : Type 0 where
   pub answered : answer ≡ cond (leb inputRoom (length buffer)) (parsed (textRead text)) TooShort
   pub left : buffer′ ≡ cond (leb inputRoom (length buffer)) (parsedBuffer (textRead text) buffer) buffer
+
+-- The values in front, so many at most.
+unfoldable pub valuesFound : ℕ → List Word → List ℤ
+valuesFound zero words = []
+valuesFound (suc count) [] = []
+valuesFound (suc count) (word ∷ more) = elim (isValueWord (word .bytes)) [ true ↦ numberOf (word .bytes) ∷ valuesFound count more | false ↦ [] ]

@@ -3,7 +3,7 @@ ghost use mathlib.Core.Path.{_≡_};
 ghost use mathlib.Core.List.{flatMap};
 ghost use Prim.Native.Nat.{_+_, _*_, _≤_};
 ghost use lib.ListN.{length};
-ghost use Rattle.numbers.specs.Inner.Rows.{overwritten};
+ghost use Rattle.numbers.specs.Lists.{overwritten};
 ghost use Rattle.operands.specs.Bytes.{signedBytes};
 ghost use Rattle.decimal.specs.Table.{inputOf};
 ghost use Rattle.decimal.specs.Inner.Positions.{PositionIn};

@@ -2,7 +2,7 @@
 ghost use mathlib.Core.Path.{_≡_};
 ghost use Prim.Native.Nat.{_+_, _*_, _≤_, _<_};
 ghost use lib.ListN.{length};
-ghost use Rattle.numbers.specs.Inner.Rows.{overwritten};
+ghost use Rattle.numbers.specs.Lists.{overwritten};
 ghost use Rattle.diagram.specs.Build.{nodeRoom};
 ghost use Rattle.diagram.specs.Records.{recordNumbers, recordSize};
 ghost use Rattle.diagram.specs.Walk.{numberAt};

@@ -8,9 +8,7 @@ use lib.Dec.{leb, eqb}
 use lib.IntN.{ℤ}
 use Rattle.numbers.specs.Lists.{every}
 use Rattle.numbers.specs.Ranges.{mostVariables}
-use Rattle.blocks.specs.Inner.Layout.{allNumbers, allFirsts, allCounts, cutPlace}
-use Rattle.blocks.specs.Inner.TryRows.{allTries}
-use Rattle.blocks.specs.Inner.UseRows.{allUses, allUseRows}
+use Rattle.blocks.specs.Rows.{allNumbers, allFirsts, allCounts, cutPlace, allTries, allUses, allUseRows}
 
 -- n at most 12, 2^n values, a place for each cut's count, and in each other row one for each block of each cut.
 unfoldable pub sizesFit : ℕ → ℕ → ℕ → List ℕ → Bool

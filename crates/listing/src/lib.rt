@@ -7,7 +7,7 @@ mod tables;
 ghost use mathlib.Core.Path.{_≡_};
 ghost use Prim.Native.Nat.{_≤_};
 ghost use lib.ListN.{length};
-ghost use Rattle.numbers.specs.Inner.Rows.{overwritten};
+ghost use Rattle.numbers.specs.Lists.{overwritten};
 ghost use Rattle.cascade.specs.Plan.{plan};
 ghost use Rattle.listing.specs.Listing.{tableOf, answerText, listing};
 ghost use Rattle.listing.specs.Program.{textRoom, Lists};

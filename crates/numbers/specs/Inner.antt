@@ -1,4 +1,3 @@
 -- What inner functions promise and hold; a file stands behind those that it names.
 pub mod Bits
 pub mod Checks
-pub mod Rows

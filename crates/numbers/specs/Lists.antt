@@ -1,8 +1,8 @@
--- Lists by tests: runs of numbers, what passes a test, how many do, the least number that does; and sums.
+-- Lists by tests: runs of numbers, what passes a test, how many do, the least number that does; sums; and rows that are written into.
 use Prim.Native.Nat.{ℕ, zero, suc, _+_, _-_}
 use mathlib.Core.Bool.{Bool, true, false, _&&_}
 use mathlib.Core.List.{List, [], _∷_, _++_}
-use lib.ListN.{length, replicate}
+use lib.ListN.{length, take, drop, replicate}
 use lib.IntN.{ℤ, pos, _+ℤ_}
 
 -- As many numbers as count says, from start up.
@@ -45,3 +45,7 @@ least test bound = leastFrom test bound 0
 -- A list in an array of so many places: those past its last entry hold the filler.
 unfoldable pub padded : {A : Type 0} → ℕ → A → List A → List A
 padded places filler l = l ++ replicate (places - length l) filler
+
+-- A row with new entries from a place on.
+unfoldable pub overwritten : {A : Type 0} → List A → ℕ → List A → List A
+overwritten row at new = take at row ++ (new ++ drop (at + length new) row)

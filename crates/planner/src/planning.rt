@@ -3,7 +3,7 @@ ghost use mathlib.Core.Path.{_≡_};
 ghost use mathlib.Core.Bool.{true};
 ghost use Rattle.numbers.specs.Ranges.{isLimit};
 ghost use Rattle.blocks.specs.Inner.Layout.{AllClassed};
-ghost use Rattle.blocks.specs.Inner.UseRows.{allUseRows};
+ghost use Rattle.blocks.specs.Rows.{allUseRows};
 ghost use Rattle.diagram.specs.Accepted.{Accepted};
 ghost use Rattle.cascade.specs.Plan.{Plans};
 ghost use Rattle.planner.specs.Inner.Ready.{RowsKnown, PlanRoom};

@@ -5,7 +5,7 @@ ghost use lib.ListN.{getD};
 ghost use lib.Dec.{leb};
 ghost use Rattle.numbers.specs.Widths.{railWidth};
 ghost use Rattle.blocks.specs.Classes.{classCount};
-ghost use Rattle.blocks.specs.Inner.Layout.{allCounts};
+ghost use Rattle.blocks.specs.Rows.{allCounts};
 ghost use Rattle.cascade.specs.Cascade.{cellOf};
 ghost use Rattle.cascade.specs.Inner.Choices.{cellPrice};
 ghost use Rattle.planner.specs.Inner.Ready.{CellReady, AddressReady};

@@ -4,7 +4,7 @@ ghost use mathlib.Core.List.{map};
 ghost use Prim.Native.Nat.{_^_, _≤_, _<_};
 ghost use lib.ListN.{length, take};
 ghost use lib.IntN.{pos, _+ℤ_};
-ghost use Rattle.numbers.specs.Inner.Rows.{overwritten};
+ghost use Rattle.numbers.specs.Lists.{overwritten};
 ghost use Rattle.sums.specs.Sums.{sumTable, remainderBy};
 ghost use Rattle.sums.specs.Inner.Summable.{Summable};
 ghost use Rattle.sums.specs.Inner.Filling.{MayDouble};

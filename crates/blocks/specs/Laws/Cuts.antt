@@ -11,7 +11,7 @@ use Rattle.numbers.specs.Laws.Padding.{length-padded}
 use Rattle.numbers.specs.Laws.Powers.{power-split}
 use Rattle.blocks.specs.Blocks.{blocks, differences}
 use Rattle.blocks.specs.Classes.{numberIn, distinct}
-use Rattle.blocks.specs.Inner.Layout.{numbersOf, firstsOf, cutNumbers, cutFirsts, cutPlace}
+use Rattle.blocks.specs.Rows.{numbersOf, firstsOf, cutNumbers, cutFirsts, cutPlace}
 use Rattle.blocks.specs.Laws.Known.{distinct-length}
 use Rattle.blocks.specs.Laws.Blocks.{blocks-count}
 

@@ -12,7 +12,8 @@ use Rattle.numbers.specs.Lists.{numbersFrom, padded}
 use Rattle.numbers.specs.Laws.Lists.{range-suc, length-range, getD-range, getD-map}
 use Rattle.numbers.specs.Laws.Selections.{flatMap-append, range-add}
 use Rattle.blocks.specs.Blocks.{block, differences}
-use Rattle.blocks.specs.Inner.Layout.{classAt, numbersOf, firstsOf, cutNumbers, cutFirsts, allNumbers, allFirsts, allCounts, cutPlace}
+use Rattle.blocks.specs.Rows.{numbersOf, firstsOf, cutNumbers, cutFirsts, allNumbers, allFirsts, allCounts, cutPlace}
+use Rattle.blocks.specs.Inner.Layout.{classAt}
 use Rattle.blocks.specs.Classes.{numberIn, distinct, classes, classCount, classOf}
 use Rattle.blocks.specs.Laws.Classes.{cutDifferences, cut-length, cut-at, class-count-le}
 use Rattle.blocks.specs.Laws.Cuts.{length-cut-numbers, length-cut-firsts}

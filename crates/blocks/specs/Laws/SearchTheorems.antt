@@ -11,13 +11,12 @@ use lib.Pow.{pow-pos}
 use Rattle.numbers.specs.Laws.Lists.{getD-map}
 use Rattle.blocks.specs.Blocks.{blocks, differences}
 use Rattle.blocks.specs.Classes.{numberIn, distinct}
-use Rattle.blocks.specs.Inner.Layout.{numbersOf, cutNumbers, cutPlace}
+use Rattle.blocks.specs.Rows.{numbersOf, cutNumbers, cutPlace, allTries}
 use Rattle.blocks.specs.Laws.Cuts.{lists-length}
 use Rattle.blocks.specs.Laws.Known.{number-at, own-distinct, Among, distinct-seen}
 use Rattle.blocks.specs.Laws.Places.{row-at}
 use Rattle.blocks.specs.Searching.{foundIn, comparedIn, OrderOf}
 use Rattle.blocks.specs.Tries.{lookOrder, lookedUntil, numberTried, blockClass, knownBefore, triedAt, cutTries}
-use Rattle.blocks.specs.Inner.TryRows.{allTries}
 use Rattle.blocks.specs.Laws.Latest.{none-before, class-met, class-most, latest-before, latest-known}
 use Rattle.blocks.specs.Laws.Order.{order-length, first-turn, turn-below, turn-cases, looked-known, turn-of, one-turn, tried-none, tried-in, tried-new}
 use Rattle.blocks.specs.Laws.TryRows.{tries-at, length-cut-tries}

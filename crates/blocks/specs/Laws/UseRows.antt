@@ -11,13 +11,13 @@ use Rattle.numbers.specs.Lists.{numbersFrom}
 use Rattle.numbers.specs.Laws.Lists.{length-range, getD-range, getD-map, map-map}
 use Rattle.blocks.specs.Blocks.{block, blocks, differences}
 use Rattle.blocks.specs.Classes.{numberIn, distinct, classes, classCount, classOf}
-use Rattle.blocks.specs.Inner.Layout.{numbersOf, cutNumbers, cutPlace}
+use Rattle.blocks.specs.Rows.{numbersOf, cutNumbers, cutPlace, useRow, cutUseRow, allUseRows}
 use Rattle.blocks.specs.Laws.Blocks.{blocks-count}
 use Rattle.blocks.specs.Laws.Classes.{class-count-le}
 use Rattle.blocks.specs.Laws.Cuts.{length-cut-numbers, cut-within}
 use Rattle.blocks.specs.Laws.Places.{row-length, row-at}
 use Rattle.blocks.specs.Uses.{useCount, usesAt, usesOf, classesAt, cutUses, useCounts}
-use Rattle.blocks.specs.Inner.UseRows.{useRow, cutUseRow, allUseRows, inCut}
+use Rattle.blocks.specs.Inner.Layout.{inCut}
 
 -- ---- lists over a run of numbers
 

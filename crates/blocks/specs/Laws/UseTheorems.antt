@@ -15,12 +15,11 @@ use Rattle.numbers.specs.Lists.{numbersFrom, sumOf}
 use Rattle.numbers.specs.Laws.Tallies.{none-passes, tally-append}
 use Rattle.blocks.specs.Blocks.{block}
 use Rattle.blocks.specs.Classes.{classCount, classOf}
-use Rattle.blocks.specs.Inner.Layout.{cutPlace}
+use Rattle.blocks.specs.Rows.{cutPlace, cutUseRow, allUses, allUseRows}
 use Rattle.blocks.specs.Laws.Classes.{class-below, class-used, one-class-at-top, one-class-at-bottom}
 use Rattle.blocks.specs.Laws.Places.{row-at}
 use Rattle.blocks.specs.Uses.{useCount, usesAt, classesAt, cutUses, useCounts, commonest, commonestAt}
 use Rattle.blocks.specs.declared.Common.{Common}
-use Rattle.blocks.specs.Inner.UseRows.{cutUseRow, allUses, allUseRows}
 use Rattle.blocks.specs.Laws.Commonest.{commonest-leads, leading-is}
 use Rattle.blocks.specs.Laws.Counting.{uses-include, unused, uses-sum}
 use Rattle.blocks.specs.Laws.UseRows.{length-classes, class-of-block, uses-at, length-cut-uses, length-cut-use-row, cut-use-row-at, length-use-counts, use-count-at}

@@ -5,7 +5,7 @@ use mathlib.Core.List.{List}
 use lib.ListN.{length, getD}
 use lib.IntN.{ℤ}
 use Rattle.blocks.specs.Classes.{classCount}
-use Rattle.blocks.specs.Inner.Layout.{cutPlace, allFirsts}
+use Rattle.blocks.specs.Rows.{cutPlace, allFirsts}
 use Rattle.diagram.specs.Accepted.{Accepted}
 use Rattle.image.specs.Cells.{Word}
 use Rattle.image.specs.WellFormed.{noWord}

@@ -6,7 +6,7 @@ use native.Mathlib.Numerals.{add-one}
 use native.Mathlib.Omega.{arith}
 use lib.ListN.{length, getD, take, set, drop-of-length-le}
 use lib.Seq.{take-suc, take-all, length-take-le}
-use Rattle.numbers.specs.Inner.Rows.{overwritten}
+use Rattle.numbers.specs.Lists.{overwritten}
 use Rattle.numbers.specs.Laws.Rows.{six-stored, overwritten-front, overwritten-none}
 use Rattle.numbers.specs.Laws.Selections.{flatMap-append}
 use Rattle.numbers.specs.Laws.Written.{length-kept, written-behind, stored-behind}

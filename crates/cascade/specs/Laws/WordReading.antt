@@ -13,7 +13,8 @@ use Rattle.numbers.specs.Laws.Bounds.{weight-mag}
 use Rattle.numbers.specs.Laws.Powers.{part-room}
 use Rattle.blocks.specs.Blocks.{block, first, differences}
 use Rattle.blocks.specs.Classes.{classCount, classOf}
-use Rattle.blocks.specs.Inner.Layout.{cutPlace, classAt, allNumbers}
+use Rattle.blocks.specs.Rows.{cutPlace, allNumbers}
+use Rattle.blocks.specs.Inner.Layout.{classAt}
 use Rattle.blocks.specs.Laws.Blocks.{block-length, block-within}
 use Rattle.blocks.specs.Laws.Classes.{class-count-le}
 use Rattle.blocks.specs.Laws.Places.{place-inside, length-numbers, length-firsts, class-at, first-block}

@@ -10,9 +10,8 @@ use lib.Seq.{drop-cons, take-suc, length-take-le, take-all, take-at}
 use lib.Dec.{ltb}
 use lib.IntN.{ℤ, pos}
 use borrow.Author.Tests.{ltb-true, ltb-false}
-use Rattle.numbers.specs.Lists.{padded}
+use Rattle.numbers.specs.Lists.{padded, overwritten}
 use Rattle.numbers.specs.Ranges.{eqZ}
-use Rattle.numbers.specs.Inner.Rows.{overwritten}
 use Rattle.numbers.specs.Laws.Bools.{yes-or-no}
 use Rattle.numbers.specs.Laws.Lists.{map-append}
 use Rattle.numbers.specs.Laws.Padding.{length-padded, padded-entry, padded-free}

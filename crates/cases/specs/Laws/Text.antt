@@ -6,13 +6,12 @@ use mathlib.Core.List.{List, [], _∷_, _++_, append-nil}
 use native.Mathlib.Omega.{arith}
 use lib.ListN.{length, getD, take, drop, length-drop, drop-of-length-le}
 use lib.IntN.{ℤ}
-use Rattle.numbers.specs.Inner.Rows.{overwritten}
+use Rattle.numbers.specs.Lists.{overwritten}
 use Rattle.numbers.specs.Laws.Bools.{yes-or-no}
 use Rattle.decimal.specs.Words.{isNewline, Word, words}
-use Rattle.decimal.specs.Table.{isValueWord}
+use Rattle.decimal.specs.Table.{isValueWord, valuesFound}
 use Rattle.decimal.specs.declared.Position.{Position}
 use Rattle.decimal.specs.Inner.Positions.{wordsAt}
-use Rattle.decimal.specs.Inner.Values.{valuesFound}
 use Rattle.decimal.specs.Laws.Buffers.{front-taken}
 use Rattle.decimal.specs.Laws.Items.{SeenOther, SeenEnd}
 use Rattle.decimal.specs.Laws.Positions.{byte-there, start-words}

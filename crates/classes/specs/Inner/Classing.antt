@@ -5,10 +5,9 @@ use mathlib.Core.List.{List}
 use lib.ListN.{length}
 use lib.IntN.{ℤ}
 use Rattle.blocks.specs.Classes.{distinct}
-use Rattle.blocks.specs.Inner.Layout.{numbersOf, firstsOf}
+use Rattle.blocks.specs.Rows.{numbersOf, firstsOf, useRow}
 use Rattle.blocks.specs.Tries.{triesOf}
 use Rattle.blocks.specs.Uses.{usesOf}
-use Rattle.blocks.specs.Inner.UseRows.{useRow}
 use Rattle.classes.specs.Inner.Finding.{Cut, cutLists}
 use Rattle.classes.specs.Inner.Noting.{CutRows, RowsAlike}
 

@@ -6,7 +6,7 @@ use lib.ListN.{length, take}
 use lib.IntN.{ℤ}
 use Rattle.numbers.specs.Lists.{numbersFrom}
 use Rattle.blocks.specs.Classes.{numberIn, distinct}
-use Rattle.blocks.specs.Inner.Layout.{numbersOf}
+use Rattle.blocks.specs.Rows.{numbersOf}
 use Rattle.blocks.specs.Tries.{blockClass, knownBefore, triedAt}
 use Rattle.blocks.specs.Uses.{useCount, usesAt}
 use Rattle.classes.specs.declared.search.Found.{Found}

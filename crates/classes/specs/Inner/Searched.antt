@@ -4,9 +4,7 @@ use mathlib.Core.Path.{_≡_}
 use mathlib.Core.List.{List}
 use lib.ListN.{length}
 use lib.IntN.{ℤ}
-use Rattle.blocks.specs.Inner.Layout.{cutPlace}
-use Rattle.blocks.specs.Inner.TryRows.{allTries}
-use Rattle.blocks.specs.Inner.UseRows.{allUses, allUseRows}
+use Rattle.blocks.specs.Rows.{cutPlace, allTries, allUses, allUseRows}
 
 -- Rows for how many classes were tried for each block, how many blocks up to and including it have its class, and how many have each
 -- class.

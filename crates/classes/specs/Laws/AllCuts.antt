@@ -8,18 +8,16 @@ use native.Mathlib.Omega.{arith}
 use lib.ListN.{length, take, set, length-set}
 use lib.Seq.{take-suc-set}
 use lib.IntN.{ℤ}
-use Rattle.numbers.specs.Lists.{numbersFrom}
-use Rattle.numbers.specs.Inner.Rows.{overwritten}
+use Rattle.numbers.specs.Lists.{numbersFrom, overwritten}
 use Rattle.numbers.specs.Laws.Lists.{range-suc, map-append}
 use Rattle.numbers.specs.Laws.Overwriting.{take-overwritten, length-overwritten}
 use Rattle.numbers.specs.Laws.Selections.{flatMap-append}
 use Rattle.blocks.specs.Classes.{classCount}
-use Rattle.blocks.specs.Inner.Layout.{cutNumbers, cutFirsts, allNumbers, allFirsts, allCounts, cutPlace, CutsRoom, AllClassed}
+use Rattle.blocks.specs.Rows.{cutNumbers, cutFirsts, allNumbers, allFirsts, allCounts, cutPlace, allTries, cutUseRow, allUses, allUseRows}
+use Rattle.blocks.specs.Inner.Layout.{CutsRoom, AllClassed}
 use Rattle.blocks.specs.Tries.{cutTries}
-use Rattle.blocks.specs.Inner.TryRows.{allTries}
 use Rattle.blocks.specs.Laws.TryRows.{length-cut-tries}
 use Rattle.blocks.specs.Uses.{cutUses}
-use Rattle.blocks.specs.Inner.UseRows.{cutUseRow, allUses, allUseRows}
 use Rattle.blocks.specs.Laws.UseRows.{length-cut-uses, length-cut-use-row}
 use Rattle.classes.specs.Laws.Noting.{all-noted}
 use Rattle.classes.specs.Laws.CutRows.{CutPlaced}

@@ -12,7 +12,7 @@ use Rattle.numbers.specs.Lists.{padded}
 use Rattle.numbers.specs.Laws.Lists.{getD-map}
 use Rattle.numbers.specs.Laws.Padding.{take-padded, padded-suc, set-padded}
 use Rattle.blocks.specs.Classes.{numberIn, learn, learnAll, distinct}
-use Rattle.blocks.specs.Inner.Layout.{numbersOf, firstsOf}
+use Rattle.blocks.specs.Rows.{numbersOf, firstsOf}
 use Rattle.blocks.specs.Tries.{blockClass, knownBefore}
 use Rattle.blocks.specs.Laws.Latest.{none-before, class-most}
 use Rattle.classes.specs.Inner.Finding.{firstsBefore}

@@ -8,7 +8,7 @@ use native.Mathlib.Omega.{arith}
 use lib.ListN.{length, getD, take, length-set}
 use lib.IntN.{ℤ}
 use Rattle.numbers.specs.Lists.{numbersFrom}
-use Rattle.blocks.specs.Inner.Layout.{numbersOf, firstsOf}
+use Rattle.blocks.specs.Rows.{numbersOf, firstsOf}
 use Rattle.blocks.specs.Tries.{blockClass, triedAt, triesOf}
 use Rattle.blocks.specs.Laws.Latest.{class-met, class-most}
 use Rattle.blocks.specs.Uses.{useCount, usesAt, usesOf}

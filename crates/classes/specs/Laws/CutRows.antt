@@ -8,19 +8,18 @@ use lib.ListN.{length, take, drop, length-take, length-drop}
 use lib.Pow.{pow-pos, pow-mono}
 use lib.IntN.{ℤ}
 use borrow.Rule.Slice.PartMut.{putMid}
-use Rattle.numbers.specs.Lists.{numbersFrom}
-use Rattle.numbers.specs.Inner.Rows.{overwritten}
+use Rattle.numbers.specs.Lists.{numbersFrom, overwritten}
 use Rattle.numbers.specs.Ranges.{mostVariables}
 use Rattle.numbers.specs.Laws.Lists.{map-map}
 use Rattle.numbers.specs.Laws.Overwriting.{part-back}
 use Rattle.blocks.specs.Blocks.{block, blocks, differences}
 use Rattle.blocks.specs.Classes.{distinct, classes, classCount}
-use Rattle.blocks.specs.Inner.Layout.{part, numbersOf, firstsOf, cutNumbers, cutFirsts, cutPlace, CutsRoom}
+use Rattle.blocks.specs.Rows.{numbersOf, firstsOf, cutNumbers, cutFirsts, cutPlace, useRow, cutUseRow}
+use Rattle.blocks.specs.Inner.Layout.{part, CutsRoom}
 use Rattle.blocks.specs.Laws.Cuts.{length-cut-numbers, length-cut-firsts, cut-within, cut-whole}
 use Rattle.blocks.specs.Tries.{triesOf, cutTries}
 use Rattle.blocks.specs.Laws.TryRows.{length-cut-tries}
 use Rattle.blocks.specs.Uses.{usesOf, classesAt, cutUses}
-use Rattle.blocks.specs.Inner.UseRows.{useRow, cutUseRow}
 use Rattle.blocks.specs.Laws.UseRows.{length-cut-uses, length-cut-use-row, classes-are}
 use Rattle.classes.specs.Inner.Noting.{cutRows}
 use Rattle.classes.specs.Inner.Classing.{CutRoom, CutClassed}

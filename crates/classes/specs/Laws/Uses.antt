@@ -8,12 +8,11 @@ use lib.Seq.{ext-getD, getD-take, length-take-le, take-all}
 use lib.IntN.{ℤ}
 use Rattle.numbers.specs.Laws.Lists.{getD-map}
 use Rattle.blocks.specs.Classes.{numberIn, distinct}
-use Rattle.blocks.specs.Inner.Layout.{numbersOf}
+use Rattle.blocks.specs.Rows.{numbersOf, useRow}
 use Rattle.blocks.specs.Laws.Known.{distinct-length}
 use Rattle.blocks.specs.Tries.{blockClass, knownBefore}
 use Rattle.blocks.specs.Laws.Latest.{class-most, known-since}
 use Rattle.blocks.specs.Uses.{useCount, usesAt}
-use Rattle.blocks.specs.Inner.UseRows.{useRow}
 use Rattle.blocks.specs.Laws.Counting.{uses-most, found-uses, row-next}
 use Rattle.blocks.specs.Laws.UseRows.{length-run, run-at, length-use-row, use-row-at}
 use Rattle.classes.specs.Inner.Searching.{usesWith}

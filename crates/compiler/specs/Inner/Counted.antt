@@ -5,7 +5,7 @@ use mathlib.Core.List.{List}
 use lib.IntN.{ℤ}
 use Rattle.numbers.specs.Lists.{tally}
 use Rattle.blocks.specs.Classes.{classes, classCount}
-use Rattle.blocks.specs.Inner.Layout.{allFirsts}
+use Rattle.blocks.specs.Rows.{allFirsts}
 use Rattle.diagram.specs.Accepted.{Accepted}
 use Rattle.diagram.specs.Records.{branches}
 

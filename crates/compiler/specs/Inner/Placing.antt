@@ -8,7 +8,7 @@ use lib.IntN.{ℤ}
 use Rattle.numbers.specs.Answers.{Answer, accepted, unless, mapAnswer, bufferAfter}
 use Rattle.numbers.specs.Lists.{padded}
 use Rattle.numbers.specs.Ranges.{mostVariables}
-use Rattle.blocks.specs.Inner.Layout.{cutPlace, allNumbers, allFirsts, allCounts}
+use Rattle.blocks.specs.Rows.{cutPlace, allNumbers, allFirsts, allCounts}
 use Rattle.diagram.specs.Accepted.{Accepted}
 use Rattle.cascade.specs.Compile.{imageFor, imageSummary, outcome}
 use Rattle.cascade.specs.Plan.{noCell, cellArray}

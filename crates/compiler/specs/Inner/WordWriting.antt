@@ -3,7 +3,7 @@ use Prim.Native.Nat.{ℕ, _+_, _≤_}
 use mathlib.Core.Path.{_≡_}
 use mathlib.Core.List.{List, map, flatMap}
 use lib.IntN.{ℤ}
-use Rattle.blocks.specs.Inner.Layout.{allNumbers, allFirsts}
+use Rattle.blocks.specs.Rows.{allNumbers, allFirsts}
 use Rattle.diagram.specs.Accepted.{Accepted}
 use Rattle.image.specs.Cells.{Word}
 use Rattle.image.specs.Commands.{commandBytes, wordCommand}

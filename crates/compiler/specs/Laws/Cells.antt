@@ -8,8 +8,7 @@ use native.Mathlib.Omega.{arith}
 use lib.ListN.{length, getD, take, drop, length-append, length-map, take-append-drop}
 use lib.Seq.{take-suc, take-length, length-take-le, getD-take}
 use lib.IntN.{ℤ}
-use Rattle.numbers.specs.Lists.{sumOf}
-use Rattle.numbers.specs.Inner.Rows.{overwritten}
+use Rattle.numbers.specs.Lists.{sumOf, overwritten}
 use Rattle.numbers.specs.Laws.Lists.{getD-map}
 use Rattle.numbers.specs.Laws.Rows.{overwritten-none}
 use Rattle.numbers.specs.Laws.Selections.{flatMap-append}

@@ -5,7 +5,7 @@ use mathlib.Core.List.{List, [], _∷_, _++_}
 use native.Mathlib.Omega.{arith}
 use lib.ListN.{length, set, length-append}
 use lib.IntN.{ℤ}
-use Rattle.numbers.specs.Inner.Rows.{overwritten}
+use Rattle.numbers.specs.Lists.{overwritten}
 use Rattle.operands.specs.Bytes.{bigEndian, signedBytes}
 use Rattle.image.specs.Commands.{commandBytes}
 use Rattle.operands.specs.Laws.Bytes.{length-bigEndian}

@@ -6,7 +6,7 @@ use lib.ListN.{length}
 use lib.IntN.{ℤ}
 use borrow.Author.Tests.{le-leb, lt-leb}
 use Rattle.numbers.specs.Answers.{accepted, refused}
-use Rattle.numbers.specs.Inner.Rows.{overwritten}
+use Rattle.numbers.specs.Lists.{overwritten}
 use Rattle.numbers.specs.Laws.Rows.{overwritten-front}
 use Rattle.diagram.specs.Records.{nodeCount}
 use Rattle.cascade.specs.Compile.{imageFor, compile, imageSummary, compileAnswer, compileCells, compileBuffer, outcome, Compiles}

@@ -8,9 +8,9 @@ use native.Mathlib.Omega.{arith}
 use lib.ListN.{length, take}
 use lib.IntN.{ℤ}
 use Rattle.numbers.specs.Ranges.{isLimit}
-use Rattle.numbers.specs.Inner.Rows.{overwritten}
+use Rattle.numbers.specs.Lists.{overwritten}
 use Rattle.numbers.specs.Laws.Overwriting.{take-overwritten, length-overwritten}
-use Rattle.blocks.specs.Inner.Layout.{cutPlace, allNumbers, allFirsts, allCounts}
+use Rattle.blocks.specs.Rows.{cutPlace, allNumbers, allFirsts, allCounts}
 use Rattle.blocks.specs.Laws.Cuts.{places-most}
 use Rattle.blocks.specs.Laws.Places.{length-numbers, length-firsts, length-counts}
 use Rattle.diagram.specs.Accepted.{Accepted}

@@ -9,11 +9,11 @@ use lib.Pow.{pow-mono}
 use lib.IntN.{ℤ, pos}
 use Rattle.numbers.specs.Ranges.{mostVariables}
 use Rattle.decimal.specs.Words.{Word, lastLine}
-use Rattle.decimal.specs.Table.{Read, got, wrong, Table, hasMore, valuesRead, bodyRead, inputRoom}
+use Rattle.decimal.specs.Table.{Read, got, wrong, Table, hasMore, valuesRead, bodyRead, inputRoom, valuesFound}
 use Rattle.decimal.specs.declared.Body.the-variants.{Good, Wrong as NotGood}
 use Rattle.decimal.specs.declared.Expected.the-variants.{LineEnd}
 use Rattle.decimal.specs.Inner.Positions.{wordsAt}
-use Rattle.decimal.specs.Inner.Values.{bodyJudged, valuesFound}
+use Rattle.decimal.specs.Inner.Values.{bodyJudged}
 use Rattle.decimal.specs.Laws.Values.{good-values}
 use Rattle.decimal.specs.Laws.Buffers.{front-taken}
 use Rattle.decimal.specs.Laws.Tables.{body-more, body-wrong, body-good, wrong-answers, got-answers}

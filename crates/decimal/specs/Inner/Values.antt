@@ -1,14 +1,12 @@
 -- The values of a text, and the buffer for its input.
-use Prim.Native.Nat.{ℕ, zero, suc, _+_, _*_, _≤_}
+use Prim.Native.Nat.{ℕ, _+_, _*_, _≤_}
 use mathlib.Core.Path.{_≡_}
-use mathlib.Core.Bool.{true, false}
-use mathlib.Core.List.{List, [], _∷_}
+use mathlib.Core.List.{List}
 use lib.ListN.{length}
 use lib.IntN.{ℤ}
-use Rattle.numbers.specs.Inner.Rows.{overwritten}
-use Rattle.decimal.specs.Words.{Word, lastLine}
-use Rattle.decimal.specs.Numbers.{numberOf}
-use Rattle.decimal.specs.Table.{Read, got, wrong, Table, isValueWord, valuesRead, bodyRead, inputRoom, parsed, parsedBuffer}
+use Rattle.numbers.specs.Lists.{overwritten}
+use Rattle.decimal.specs.Words.{lastLine}
+use Rattle.decimal.specs.Table.{Read, got, wrong, Table, valuesRead, bodyRead, inputRoom, parsed, parsedBuffer, valuesFound}
 use Rattle.decimal.specs.declared.Position.{Position}
 use Rattle.decimal.specs.declared.Parsed.{Parsed}
 use Rattle.decimal.specs.declared.Body.{Body}
@@ -27,12 +25,6 @@ bodyAt text at n limit = bodyRead (lastLine text) n limit (wordsAt text (record 
 unfoldable pub bodyJudged : {A : Type 0} → Read A → Body
 bodyJudged (got a) = Good
 bodyJudged (wrong line expected) = Wrong line expected
-
--- The values in front, so many at most.
-unfoldable pub valuesFound : ℕ → List Word → List ℤ
-valuesFound zero words = []
-valuesFound (suc count) [] = []
-valuesFound (suc count) (word ∷ more) = elim (isValueWord (word .bytes)) [ true ↦ numberOf (word .bytes) ∷ valuesFound count more | false ↦ [] ]
 
 -- Whether the values from a place on are all there, and the row with those found in front.
 pub record ReadsValues (text : List ℕ) (place : Position) (count : ℕ) (row : List ℤ) (answer : Body) (row′ : List ℤ) : Type 0 where

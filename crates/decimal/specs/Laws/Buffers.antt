@@ -6,7 +6,7 @@ use native.Mathlib.Omega.{arith}
 use lib.ListN.{length, set, take, drop}
 use lib.Seq.{take-at}
 use lib.IntN.{ℤ}
-use Rattle.numbers.specs.Inner.Rows.{overwritten}
+use Rattle.numbers.specs.Lists.{overwritten}
 use Rattle.numbers.specs.Laws.Rows.{overwritten-front}
 use Rattle.numbers.specs.Laws.Selections.{length-flatMap}
 use Rattle.numbers.specs.Laws.Written.{one-stored, stored-behind, written-behind}

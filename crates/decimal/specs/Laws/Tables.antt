@@ -8,11 +8,11 @@ use lib.ListN.{length}
 use lib.Signed.{mag}
 use borrow.Author.Tests.{le-leb, lt-leb}
 use Rattle.numbers.specs.Ranges.{mostVariables}
-use Rattle.numbers.specs.Inner.Rows.{overwritten}
+use Rattle.numbers.specs.Lists.{overwritten}
 use Rattle.numbers.specs.Laws.Rows.{overwritten-front}
 use Rattle.decimal.specs.Words.{Word, lastLine}
 use Rattle.decimal.specs.Numbers.{numberOf}
-use Rattle.decimal.specs.Table.{Read, got, wrong, mapRead, Table, valuesRead, isHeading, hasMore, bodyRead, limitRead, wordsRead, textRead, inputOf, inputRoom, parsed, parsedBuffer, Reads}
+use Rattle.decimal.specs.Table.{Read, got, wrong, mapRead, Table, valuesRead, isHeading, hasMore, bodyRead, limitRead, wordsRead, textRead, inputOf, inputRoom, parsed, parsedBuffer, Reads, valuesFound}
 use Rattle.decimal.specs.declared.Expected.{Expected}
 use Rattle.decimal.specs.declared.Expected.the-variants.{Variables, Limit, LineEnd}
 use Rattle.decimal.specs.declared.Parsed.{Parsed}
@@ -20,7 +20,7 @@ use Rattle.decimal.specs.declared.Parsed.the-variants.{Input, Wrong, Too
 use Rattle.decimal.specs.declared.Body.the-variants.{Good, Wrong as NotGood}
 use Rattle.decimal.specs.declared.Heading.the-variants.{Missing}
 use Rattle.decimal.specs.Inner.Positions.{wordsAt}
-use Rattle.decimal.specs.Inner.Values.{bodyJudged, valuesFound, Answers}
+use Rattle.decimal.specs.Inner.Values.{bodyJudged, Answers}
 use Rattle.decimal.specs.Laws.Positions.{start-words}
 use Rattle.decimal.specs.Laws.Items.{HeadingFound, HeadingSeen}
 use Rattle.decimal.specs.Laws.Values.{good-values}

@@ -6,18 +6,18 @@ use mathlib.Core.List.{List, [], _∷_, _++_, append-nil, append-assoc}
 use native.Mathlib.Omega.{arith}
 use lib.ListN.{length, set, length-append}
 use lib.IntN.{ℤ}
-use Rattle.numbers.specs.Inner.Rows.{overwritten}
+use Rattle.numbers.specs.Lists.{overwritten}
 use Rattle.numbers.specs.Laws.Bools.{yes-or-no}
 use Rattle.numbers.specs.Laws.Rows.{overwritten-none}
 use Rattle.numbers.specs.Laws.Written.{length-kept, stored-behind}
 use Rattle.decimal.specs.Words.{Word, lastLine}
 use Rattle.decimal.specs.Numbers.{numberOf}
-use Rattle.decimal.specs.Table.{Read, got, wrong, mapRead, isValueWord, valuesRead}
+use Rattle.decimal.specs.Table.{Read, got, wrong, mapRead, isValueWord, valuesRead, valuesFound}
 use Rattle.decimal.specs.declared.Position.{Position}
 use Rattle.decimal.specs.declared.Expected.the-variants.{Value}
 use Rattle.decimal.specs.declared.Body.the-variants.{Good, Wrong}
 use Rattle.decimal.specs.Inner.Positions.{wordsAt, PositionIn}
-use Rattle.decimal.specs.Inner.Values.{bodyJudged, valuesFound}
+use Rattle.decimal.specs.Inner.Values.{bodyJudged}
 use Rattle.decimal.specs.Laws.Items.{SeenValue, SeenOther, SeenEnd}
 
 -- ---- one value more

@@ -6,9 +6,10 @@ use mathlib.Core.List.{List, map, flatMap}
 use lib.ListN.{length, getD, set}
 use lib.IntN.{ℤ, _-ℤ_}
 use Rattle.numbers.specs.Extremes.{leastOf, greatestOf}
-use Rattle.numbers.specs.Inner.Rows.{overwritten}
+use Rattle.numbers.specs.Lists.{overwritten}
 use Rattle.blocks.specs.Blocks.{first, lowerHalf, upperHalf, differences}
-use Rattle.blocks.specs.Inner.Layout.{classAt, allNumbers, allFirsts, allCounts, cutPlace}
+use Rattle.blocks.specs.Rows.{allNumbers, allFirsts, allCounts, cutPlace}
+use Rattle.blocks.specs.Inner.Layout.{classAt}
 use Rattle.blocks.specs.Classes.{classes, classCount}
 use Rattle.diagram.specs.Accepted.{Accepted}
 use Rattle.diagram.specs.Build.{nodeRoom}

@@ -10,8 +10,7 @@ use lib.ListN.{length, getD, take, drop, set, length-map, length-append, take-ap
 use lib.Seq.{take-suc, take-all, length-take-le}
 use lib.Pow.{pow-mono}
 use lib.IntN.{ℤ}
-use Rattle.numbers.specs.Lists.{keep}
-use Rattle.numbers.specs.Inner.Rows.{overwritten}
+use Rattle.numbers.specs.Lists.{keep, overwritten}
 use Rattle.numbers.specs.Laws.Bools.{yes-or-no}
 use Rattle.numbers.specs.Laws.Lists.{getD-map}
 use Rattle.numbers.specs.Laws.Overwriting.{length-overwritten}
@@ -19,7 +18,8 @@ use Rattle.numbers.specs.Laws.Rows.{keep-next, keep-same, overwritten-none, ove
 use Rattle.numbers.specs.Laws.Selections.{keep-append, flatMap-append}
 use Rattle.blocks.specs.Blocks.{block, lowerHalf, differences}
 use Rattle.blocks.specs.Classes.{numberIn, classes, classCount}
-use Rattle.blocks.specs.Inner.Layout.{cutPlace, classAt}
+use Rattle.blocks.specs.Rows.{cutPlace}
+use Rattle.blocks.specs.Inner.Layout.{classAt}
 use Rattle.blocks.specs.Laws.Classes.{class-count-le}
 use Rattle.blocks.specs.Laws.Cuts.{cut-end, cut-within}
 use Rattle.blocks.specs.Laws.Differences.{differences-again}

@@ -6,7 +6,8 @@ use native.Mathlib.Omega.{arith}
 use lib.ListN.{length, getD}
 use lib.IntN.{ℤ}
 use Rattle.blocks.specs.Blocks.{block, differences}
-use Rattle.blocks.specs.Inner.Layout.{cutPlace, classAt}
+use Rattle.blocks.specs.Rows.{cutPlace}
+use Rattle.blocks.specs.Inner.Layout.{classAt}
 use Rattle.blocks.specs.Laws.Blocks.{block-within}
 use Rattle.blocks.specs.Laws.Classes.{class-count-le}
 use Rattle.blocks.specs.Laws.Differences.{differences-again}

@@ -19,7 +19,8 @@ use Rattle.numbers.specs.Laws.Lists.{every-at}
 use Rattle.numbers.specs.Laws.Powers.{part-room, power-split}
 use Rattle.blocks.specs.Blocks.{block, first, lowerHalf, upperHalf}
 use Rattle.blocks.specs.Classes.{classes, classCount, classOf}
-use Rattle.blocks.specs.Inner.Layout.{cutPlace, classAt}
+use Rattle.blocks.specs.Rows.{cutPlace}
+use Rattle.blocks.specs.Inner.Layout.{classAt}
 use Rattle.blocks.specs.Laws.Blocks.{block-at}
 use Rattle.blocks.specs.Laws.Classes.{class-below, class-stands, class-count-le}
 use Rattle.diagram.specs.Records.{branches, node, recordOf}

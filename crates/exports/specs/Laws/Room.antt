@@ -12,7 +12,8 @@ use Rattle.numbers.specs.Lists.{every}
 use Rattle.numbers.specs.Ranges.{mostVariables}
 use Rattle.numbers.specs.Laws.Bools.{both}
 use Rattle.numbers.specs.Laws.Lists.{every-at}
-use Rattle.blocks.specs.Inner.Layout.{cutPlace, CutsRoom}
+use Rattle.blocks.specs.Rows.{cutPlace}
+use Rattle.blocks.specs.Inner.Layout.{CutsRoom}
 use Rattle.classes.specs.Inner.Searched.{SearchRoom}
 use Rattle.exports.specs.Classing.{sizesFit}
 

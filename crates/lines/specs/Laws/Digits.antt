@@ -8,7 +8,7 @@ use native.Mathlib.Nat.{mod-eq-of-lt}
 use lib.ListN.{length, take, drop, set, length-append, length-set}
 use lib.Seq.{set-split, take-set-le, drop-at, length-take-le}
 use lib.IntN.{pos}
-use Rattle.numbers.specs.Inner.Rows.{overwritten}
+use Rattle.numbers.specs.Lists.{overwritten}
 use Rattle.numbers.specs.Laws.Rows.{overwritten-none}
 use Rattle.lines.specs.Text.{decimal}
 use Rattle.lines.specs.Inner.Digits.{lowestDigits}

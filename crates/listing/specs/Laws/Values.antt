@@ -7,8 +7,7 @@ use native.Mathlib.Numerals.{add-one}
 use native.Mathlib.Omega.{arith}
 use lib.ListN.{length, set, length-map, drop-of-length-le}
 use lib.IntN.{ℤ}
-use Rattle.numbers.specs.Lists.{numbersFrom}
-use Rattle.numbers.specs.Inner.Rows.{overwritten}
+use Rattle.numbers.specs.Lists.{numbersFrom, overwritten}
 use Rattle.numbers.specs.Laws.Lists.{length-range, range-suc, map-append}
 use Rattle.numbers.specs.Laws.Overwriting.{length-overwritten}
 use Rattle.numbers.specs.Laws.Rows.{overwritten-none, overwritten-front}

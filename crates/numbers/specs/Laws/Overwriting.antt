@@ -6,7 +6,7 @@ use native.Mathlib.Omega.{arith}
 use lib.ListN.{length, take, drop, length-append, length-drop}
 use lib.Seq.{length-take-le, take-at, drop-drop}
 use borrow.Rule.Slice.PartMut.{putMid}
-use Rattle.numbers.specs.Inner.Rows.{overwritten}
+use Rattle.numbers.specs.Lists.{overwritten}
 
 module _ {A : Type 0} (row : List A) (at : ℕ) (new : List A) where
   pub take-overwritten : at ≤ length row → take (at + length new) (overwritten row at new) ≡ take at row ++ new

@@ -7,8 +7,7 @@ use native.Mathlib.Nat.{zero-add, add-zero}
 use native.Mathlib.Omega.{arith}
 use lib.ListN.{length, getD, take, drop, set, length-append, take-append-drop, List·getD-append}
 use lib.Seq.{take-suc, split-at, length-take-le, drop-cons, drop-append-add, drop-drop, getD-append-seam, getD-append-add, getD-take, getD-drop, set-at, sets-eq}
-use Rattle.numbers.specs.Lists.{keep}
-use Rattle.numbers.specs.Inner.Rows.{overwritten}
+use Rattle.numbers.specs.Lists.{keep, overwritten}
 use Rattle.numbers.specs.Laws.Overwriting.{take-overwritten}
 use Rattle.numbers.specs.Laws.Selections.{keep-passed, keep-failed, keep-append}
 

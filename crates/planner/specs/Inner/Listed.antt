@@ -9,9 +9,9 @@ use lib.IntN.{ℤ}
 use Rattle.numbers.specs.Lists.{padded}
 use Rattle.numbers.specs.Ranges.{mostVariables}
 use Rattle.numbers.specs.Widths.{railWidth}
-use Rattle.blocks.specs.Inner.Layout.{allCounts}
+use Rattle.blocks.specs.Rows.{allCounts, allUseRows}
 use Rattle.blocks.specs.Uses.{commonest}
-use Rattle.blocks.specs.Inner.UseRows.{allUseRows, inCut}
+use Rattle.blocks.specs.Inner.Layout.{inCut}
 use Rattle.blocks.specs.declared.Common.{Common}
 use Rattle.diagram.specs.Accepted.{Accepted}
 use Rattle.cascade.specs.Plan.{noCell}

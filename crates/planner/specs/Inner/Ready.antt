@@ -6,7 +6,7 @@ use mathlib.Core.List.{List}
 use lib.ListN.{length, getD}
 use lib.IntN.{ℤ}
 use Rattle.numbers.specs.Ranges.{isLimit}
-use Rattle.blocks.specs.Inner.Layout.{cutPlace, allFirsts, allCounts}
+use Rattle.blocks.specs.Rows.{cutPlace, allFirsts, allCounts}
 use Rattle.diagram.specs.Accepted.{Accepted}
 use Rattle.cascade.specs.Inner.Choices.{tableChoice}
 use Rattle.cascade.specs.declared.Choice.{Choice}

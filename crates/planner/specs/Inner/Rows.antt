@@ -6,10 +6,9 @@ use mathlib.Core.List.{List, []}
 use lib.ListN.{length}
 use lib.Dec.{eqb}
 use lib.IntN.{ℤ}
-use Rattle.numbers.specs.Lists.{every, padded}
+use Rattle.numbers.specs.Lists.{every, padded, overwritten}
 use Rattle.numbers.specs.Ranges.{isVariables, isValue, isLimit, mostVariables}
-use Rattle.numbers.specs.Inner.Rows.{overwritten}
-use Rattle.blocks.specs.Inner.Layout.{allNumbers, allFirsts, allCounts}
+use Rattle.blocks.specs.Rows.{allNumbers, allFirsts, allCounts}
 use Rattle.cascade.specs.Plan.{noCell}
 use Rattle.cascade.specs.declared.Planned.{Planned}
 use Rattle.cascade.specs.declared.Verdict.the-variants.{Refused}

@@ -13,12 +13,12 @@ use Rattle.numbers.specs.Widths.{railWidth, cellBits}
 use Rattle.numbers.specs.Laws.Padding.{padded-entry}
 use Rattle.numbers.specs.Laws.Lists.{length-range, getD-range, getD-map}
 use Rattle.blocks.specs.Classes.{classCount}
-use Rattle.blocks.specs.Inner.Layout.{cutPlace}
+use Rattle.blocks.specs.Rows.{cutPlace, allUseRows}
 use Rattle.blocks.specs.Laws.Classes.{class-count-le}
 use Rattle.blocks.specs.Laws.Cuts.{cut-within}
 use Rattle.blocks.specs.Laws.Places.{length-counts, count-at}
 use Rattle.blocks.specs.Uses.{commonest, commonestAt}
-use Rattle.blocks.specs.Inner.UseRows.{allUseRows, inCut}
+use Rattle.blocks.specs.Inner.Layout.{inCut}
 use Rattle.blocks.specs.Laws.UseRows.{length-all-use-rows, use-counts-stand}
 use Rattle.image.specs.Cells.{bitsOf}
 use Rattle.image.specs.Reader.{mostClasses}

@@ -18,7 +18,7 @@ use Rattle.numbers.specs.Laws.Extremes.{lowest-snoc, highest-snoc, width-by-ext
 use Rattle.numbers.specs.Laws.Lists.{map-append}
 use Rattle.numbers.specs.Laws.Powers.{part-room}
 use Rattle.blocks.specs.Classes.{classCount, railAt}
-use Rattle.blocks.specs.Inner.Layout.{cutPlace, allCounts}
+use Rattle.blocks.specs.Rows.{cutPlace, allCounts}
 use Rattle.blocks.specs.Laws.Classes.{class-count-le}
 use Rattle.blocks.specs.Laws.Blocks.{first-of-block}
 use Rattle.blocks.specs.Laws.Places.{place-inside, length-firsts, length-counts, count-at}

@@ -11,7 +11,7 @@ use lib.Pow.{pow-pos}
 use mir.Facts.{fits-of-lt}
 use borrow.Author.Needs.{needs}
 use Rattle.numbers.specs.Ranges.{isLimit, mostVariables}
-use Rattle.blocks.specs.Inner.Layout.{cutPlace, allCounts}
+use Rattle.blocks.specs.Rows.{cutPlace, allCounts}
 use Rattle.blocks.specs.Laws.Cuts.{places-most}
 use Rattle.blocks.specs.Laws.Places.{length-counts}
 use Rattle.diagram.specs.Accepted.{Accepted}

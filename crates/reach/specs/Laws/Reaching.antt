@@ -13,7 +13,7 @@ use Rattle.numbers.specs.Lists.{numbersFrom, padded}
 use Rattle.numbers.specs.Ranges.{isLimit, mostVariables}
 use Rattle.numbers.specs.Laws.Lists.{length-range}
 use Rattle.blocks.specs.Classes.{classCount, railAt}
-use Rattle.blocks.specs.Inner.Layout.{allCounts}
+use Rattle.blocks.specs.Rows.{allCounts}
 use Rattle.blocks.specs.Laws.Classes.{class-count-le}
 use Rattle.blocks.specs.Laws.Places.{length-counts, count-at}
 use Rattle.diagram.specs.Accepted.{Accepted}

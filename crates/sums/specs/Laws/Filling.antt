@@ -9,7 +9,7 @@ use lib.ListN.{length, getD, take, set, length-map, length-set, drop-of-length-l
 use lib.Seq.{take-suc, take-length, take-all, take-suc-set, length-take-le, getD-take}
 use lib.Pow.{pow-pos, pow-mono}
 use lib.IntN.{ℤ, pos, _+ℤ_}
-use Rattle.numbers.specs.Inner.Rows.{overwritten}
+use Rattle.numbers.specs.Lists.{overwritten}
 use Rattle.numbers.specs.Ranges.{isValue}
 use Rattle.numbers.specs.Laws.Lists.{map-append, every-at}
 use Rattle.numbers.specs.Laws.Overwriting.{take-overwritten, length-overwritten}

@@ -7,7 +7,7 @@ use lib.Seq.{length-take-le}
 use lib.Pow.{pow-pos, pow-mono}
 use mir.Facts.{toZ-ofZ}
 use borrow.Author.Needs.{needs, sfits-of}
-use Rattle.blocks.specs.Inner.Layout.{cutPlace}
+use Rattle.blocks.specs.Rows.{cutPlace}
 use Rattle.diagram.specs.Laws.Builds.{build-short, build-done}
 use Rattle.diagram.specs.Laws.Checks.{variables-range}
 use Rattle.diagram.specs.Laws.Numbering.{records-room}

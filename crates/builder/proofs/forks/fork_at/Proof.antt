@@ -10,7 +10,7 @@ use mir.Val.{ofZ, toZ}
 use mir.Facts.{toZ-ofZ}
 use borrow.Author.Needs.{needs, sfits-of}
 use Rattle.blocks.specs.Blocks.{block, first}
-use Rattle.blocks.specs.Inner.Layout.{cutPlace}
+use Rattle.blocks.specs.Rows.{cutPlace}
 use Rattle.diagram.specs.Laws.Forks.{low-class, high-class, cut-fits, first-small, low-class-place, high-class-place, low-node-place, high-node-place, half-fits, weight-place, forkRead, fork-is}
 use Rattle.diagram.specs.Laws.FirstBlocks.{firstOf, first-place}
 use Rattle.builder.proofs.forks.fork_at.Statement.{statement}

@@ -10,8 +10,9 @@ use mir.Val.{SFits, ofZ, toZ}
 use mir.Facts.{fits-of-lt}
 use borrow.Author.Needs.{needs}
 use borrow.Author.Tests.{not-true, not-false}
-use Rattle.numbers.specs.Inner.Rows.{overwritten}
-use Rattle.blocks.specs.Inner.Layout.{cutPlace, classAt}
+use Rattle.numbers.specs.Lists.{overwritten}
+use Rattle.blocks.specs.Rows.{cutPlace}
+use Rattle.blocks.specs.Inner.Layout.{classAt}
 use Rattle.diagram.specs.Records.{branches, recordOf, recordNumbers, recordSize}
 use Rattle.diagram.specs.Inner.Building.{forkOf}
 use Rattle.diagram.specs.declared.Fork.{Fork}

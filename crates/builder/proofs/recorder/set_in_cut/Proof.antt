@@ -5,7 +5,7 @@ use native.Mathlib.Omega.{arith}
 use lib.ListN.{length, set}
 use lib.Pow.{pow-pos}
 use borrow.Author.Needs.{needs, scaled-fits}
-use Rattle.blocks.specs.Inner.Layout.{cutPlace}
+use Rattle.blocks.specs.Rows.{cutPlace}
 use Rattle.builder.proofs.recorder.set_in_cut.Statement.{statement}
 use Rattle.builder.proofs.recorder.set_in_cut.Tie as tie
 

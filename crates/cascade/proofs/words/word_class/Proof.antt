@@ -3,7 +3,7 @@ use Prim.Native.Nat.{_+_}
 use mathlib.Core.Path.{_∙_, ap₂}
 use lib.ListN.{getD}
 use borrow.Author.Needs.{needs}
-use Rattle.blocks.specs.Inner.Layout.{cutPlace}
+use Rattle.blocks.specs.Rows.{cutPlace}
 use Rattle.cascade.specs.Laws.WordReading.{block-ready, end-small, class-read, class-place}
 use Rattle.cascade.proofs.words.word_class.Statement.{statement}
 use Rattle.cascade.proofs.words.word_class.Tie as tie

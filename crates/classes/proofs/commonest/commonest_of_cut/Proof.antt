@@ -5,9 +5,9 @@ use native.Mathlib.Nat.{add-sub-cancel-left}
 use lib.ListN.{length, take, drop}
 use lib.Pow.{pow-pos}
 use borrow.Author.Needs.{needs}
-use Rattle.blocks.specs.Inner.Layout.{cutPlace}
+use Rattle.blocks.specs.Rows.{cutPlace}
 use Rattle.blocks.specs.Uses.{commonest}
-use Rattle.blocks.specs.Inner.UseRows.{inCut}
+use Rattle.blocks.specs.Inner.Layout.{inCut}
 use Rattle.classes.proofs.commonest.commonest_of_cut.Statement.{statement}
 use Rattle.classes.proofs.commonest.commonest_of_cut.Tie as tie
 

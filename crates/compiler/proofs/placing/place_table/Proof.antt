@@ -7,7 +7,7 @@ use lib.ListN.{length, take}
 use lib.Seq.{length-take-le}
 use lib.Pow.{pow-pos}
 use borrow.Author.Needs.{needs}
-use Rattle.blocks.specs.Inner.Layout.{cutPlace}
+use Rattle.blocks.specs.Rows.{cutPlace}
 use Rattle.cascade.specs.Laws.Cells.{variables-most}
 use Rattle.compiler.proofs.placing.place_table.Statement.{statement}
 use Rattle.compiler.proofs.placing.place_table.Tie as tie

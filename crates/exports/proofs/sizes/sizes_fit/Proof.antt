@@ -6,7 +6,7 @@ use lib.Pow.{pow-pos}
 use borrow.Author.Needs.{needs}
 use borrow.Author.Tests.{le-leb, lt-leb, eq-eqb, ne-eqb}
 use Rattle.numbers.specs.Ranges.{mostVariables}
-use Rattle.blocks.specs.Inner.Layout.{cutPlace}
+use Rattle.blocks.specs.Rows.{cutPlace}
 use Rattle.exports.specs.Classing.{sizesFit}
 use Rattle.exports.proofs.sizes.sizes_fit.Statement.{statement}
 use Rattle.exports.proofs.sizes.sizes_fit.Tie as tie

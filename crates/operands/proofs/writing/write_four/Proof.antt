@@ -3,7 +3,7 @@ use Prim.Native.Nat.{_+_, _/_}
 use mathlib.Core.Path.{sym, _∙_, ap}
 use native.Mathlib.Omega.{arith}
 use borrow.Author.Needs.{needs}
-use Rattle.numbers.specs.Inner.Rows.{overwritten}
+use Rattle.numbers.specs.Lists.{overwritten}
 use Rattle.operands.specs.Bytes.{bigEndian}
 use Rattle.operands.specs.Laws.Bytes.{length-bigEndian}
 use Rattle.operands.specs.Laws.Digits.{four-bytes}

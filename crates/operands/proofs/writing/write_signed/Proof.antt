@@ -4,7 +4,7 @@ use mathlib.Core.Path.{_≡_, _∙_, ap}
 use lib.Signed.{mag}
 use mir.Facts.{toZ-ofZ}
 use borrow.Author.Needs.{needs}
-use Rattle.numbers.specs.Inner.Rows.{overwritten}
+use Rattle.numbers.specs.Lists.{overwritten}
 use Rattle.operands.specs.Bytes.{bigEndian, signedBytes}
 use Rattle.operands.specs.Laws.Digits.{negative-bytes, other-bytes}
 use Rattle.operands.proofs.writing.write_signed.Statement.{statement}

@@ -5,7 +5,7 @@ use mathlib.Core.Path.{sym, _∙_, ap}
 use native.Mathlib.Omega.{arith}
 use lib.ListN.{length-set}
 use borrow.Author.Needs.{needs}
-use Rattle.numbers.specs.Inner.Rows.{overwritten}
+use Rattle.numbers.specs.Lists.{overwritten}
 use Rattle.operands.specs.Laws.Digits.{two-bytes}
 use Rattle.numbers.specs.Laws.Written.{one-stored, stored-behind}
 use Rattle.operands.proofs.writing.write_two.Statement.{statement}

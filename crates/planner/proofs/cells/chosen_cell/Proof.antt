@@ -6,7 +6,7 @@ use lib.ListN.{getD}
 use mir.Facts.{fits-of-lt}
 use borrow.Author.Needs.{needs}
 use Rattle.blocks.specs.Uses.{commonest}
-use Rattle.blocks.specs.Inner.UseRows.{inCut}
+use Rattle.blocks.specs.Inner.Layout.{inCut}
 use Rattle.cascade.specs.Inner.Choices.{costOf}
 use Rattle.cascade.specs.declared.Choice.the-variants.{NoList}
 use Rattle.planner.specs.Inner.Listed.{sizeAt, bitsAt, widthOfBits, commonAt, chosenCell}

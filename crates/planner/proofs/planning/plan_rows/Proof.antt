@@ -9,7 +9,7 @@ use lib.Pow.{pow-pos, pow-mono}
 use mir.Facts.{fits-of-lt}
 use borrow.Author.Needs.{needs}
 use Rattle.numbers.specs.Laws.Rows.{filled-front}
-use Rattle.blocks.specs.Inner.Layout.{cutPlace, allNumbers, allFirsts, allCounts}
+use Rattle.blocks.specs.Rows.{cutPlace, allNumbers, allFirsts, allCounts}
 use Rattle.blocks.specs.Laws.Places.{length-numbers, length-firsts, length-counts}
 use Rattle.cascade.specs.Laws.Cells.{variables-most}
 use Rattle.planner.proofs.planning.plan_rows.Statement.{statement}

@@ -12,7 +12,7 @@ use mir.Val.{ofZ, toZ, SFits}
 use mir.Facts.{toZ-ofZ, fits-of-lt}
 use borrow.Author.Needs.{needs, sfits-of}
 use Rattle.numbers.specs.Ranges.{lesser, greater}
-use Rattle.blocks.specs.Inner.Layout.{cutPlace}
+use Rattle.blocks.specs.Rows.{cutPlace}
 use Rattle.cascade.specs.Inner.Words.{cellWord}
 use Rattle.cascade.specs.Laws.Cells.{variables-most}
 use Rattle.cascade.specs.Laws.Words.{sub-blocks}

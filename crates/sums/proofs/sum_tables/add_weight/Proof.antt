@@ -11,7 +11,7 @@ use borrow.Author.Needs.{scaled-fits}
 use mir.Syntax.{w32}
 use mir.Val.{SFits, ofZ, toZ}
 use mir.Facts.{toZ-ofZ, fits-of-lt}
-use Rattle.numbers.specs.Inner.Rows.{overwritten}
+use Rattle.numbers.specs.Lists.{overwritten}
 use Rattle.numbers.specs.Laws.Bounds.{value-mag}
 use Rattle.numbers.specs.Laws.Machine.{mag-add}
 use Rattle.sums.specs.Laws.Filling.{changed-none, changed-length, changed-more, next-before}

@@ -1,0 +1,58 @@
+-- How what is known of all cuts lies in rows: cut after cut, so that block j of cut h stands at place 2^h - 1 + j, and class c of cut h at place
+-- 2^h - 1 + c.
+use Prim.Native.Nat.{ℕ, suc, _-_, _^_}
+use mathlib.Core.List.{List, map, flatMap}
+use lib.ListN.{length}
+use lib.IntN.{ℤ}
+use Rattle.numbers.specs.Lists.{numbersFrom, padded}
+use Rattle.blocks.specs.Blocks.{blocks, differences}
+use Rattle.blocks.specs.Classes.{numberIn, distinct, classCount}
+use Rattle.blocks.specs.Tries.{cutTries}
+use Rattle.blocks.specs.Uses.{useCount, classesAt, cutUses}
+
+-- The place of cut h in the rows of all cuts.
+unfoldable pub cutPlace : ℕ → ℕ
+cutPlace h = 2 ^ h - 1
+
+-- The number of each list among the different ones, left to right.
+unfoldable pub numbersOf : List (List ℤ) → List ℕ
+numbersOf ds = map (numberIn (distinct ds)) ds
+
+-- For each different list the place where it appears first, and 0 past the last.
+unfoldable pub firstsOf : ℕ → List (List ℤ) → List ℕ
+firstsOf places ds = padded places 0 (map (numberIn ds) (distinct ds))
+
+-- The class of each block of cut h, left to right.
+unfoldable pub cutNumbers : ℕ → List ℤ → ℕ → List ℕ
+cutNumbers n table h = numbersOf (map differences (blocks n table (n - h)))
+
+-- The first block of each class of cut h, and 0 past the last class.
+unfoldable pub cutFirsts : ℕ → List ℤ → ℕ → List ℕ
+cutFirsts n table h = firstsOf (2 ^ h) (map differences (blocks n table (n - h)))
+
+-- The use count of each number below the number of blocks: 0 past the last class.
+unfoldable pub useRow : List ℕ → List ℕ
+useRow blockClasses = map (useCount blockClasses) (numbersFrom 0 (length blockClasses))
+
+unfoldable pub cutUseRow : ℕ → List ℤ → ℕ → List ℕ
+cutUseRow n table h = useRow (classesAt n table h)
+
+-- All cuts, from cut 0 to cut n: the class of each block, the first block of each class, and each cut's number of classes;
+unfoldable pub allNumbers : ℕ → List ℤ → List ℕ
+allNumbers n table = flatMap (cutNumbers n table) (numbersFrom 0 (suc n))
+
+unfoldable pub allFirsts : ℕ → List ℤ → List ℕ
+allFirsts n table = flatMap (cutFirsts n table) (numbersFrom 0 (suc n))
+
+unfoldable pub allCounts : ℕ → List ℤ → List ℕ
+allCounts n table = map (classCount n table) (numbersFrom 0 (suc n))
+
+-- how many classes were tried for each block, how many blocks up to and including it have its class, and each class's use count.
+unfoldable pub allTries : ℕ → List ℤ → List ℕ
+allTries n table = flatMap (cutTries n table) (numbersFrom 0 (suc n))
+
+unfoldable pub allUses : ℕ → List ℤ → List ℕ
+allUses n table = flatMap (cutUses n table) (numbersFrom 0 (suc n))
+
+unfoldable pub allUseRows : ℕ → List ℤ → List ℕ
+allUseRows n table = flatMap (cutUseRow n table) (numbersFrom 0 (suc n))

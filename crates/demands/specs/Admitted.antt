@@ -68,12 +68,16 @@ walkChecks n offset list x =
 
 -- ---- Plan and Compile
 
--- A grouping that fits: sizes, each at least 1, with sum n, and the cell of each size keeps to the address limit: the rail width at its cut,
--- which lies below the variables of the sizes before it, and its size.
-pub record FittingGrouping (n : ℕ) (table : List ℤ) (limit : ℕ) (sizes : List ℕ) : Type 0 where
+-- A list of cells from cut 0 that arrives at cut h and fits: sizes, each at least 1, with sum h, and the cell of each size keeps to the address
+-- limit: the rail width at its cut, which lies below the variables of the sizes before it, and its size.
+pub record FittingCells (n : ℕ) (table : List ℤ) (limit h : ℕ) (sizes : List ℕ) : Type 0 where
   pub some : (j : ℕ) → j < length sizes → 1 ≤ getD sizes j 0
-  pub sum : sumOf sizes ≡ n
+  pub sum : sumOf sizes ≡ h
   pub keeps : (j : ℕ) → j < length sizes → railAt n table (sumOf (take j sizes)) + getD sizes j 0 ≤ limit
+
+-- A grouping that fits is such a list that arrives at the bottom cut n.
+abbrev pub FittingGrouping : ℕ → List ℤ → ℕ → List ℕ → Type 0
+FittingGrouping n table limit sizes = FittingCells n table limit n sizes
 
 -- Plan: 1, 2, 3 as above; A outside 1..12 is 8; no grouping within A is 9.
 unfoldable pub planChecks : ℕ → List ℤ → ℕ → List Check

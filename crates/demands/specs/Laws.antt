@@ -5,3 +5,7 @@ pub mod Diagram
 pub mod Cascade
 pub mod Demands
 pub mod Image
+pub mod Pairs
+pub mod Reach
+pub mod Report
+pub mod Sums

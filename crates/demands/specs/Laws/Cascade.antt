@@ -20,7 +20,7 @@ use Rattle.cascade.specs.Groupings.{BestGrouping, addressWidth, fitsFrom, fits,
 use Rattle.cascade.specs.Plan.{plan, planCells, noCell, entries, sizeArray, cellArray, totals, planAnswer}
 use Rattle.cascade.specs.Laws.Chosen.{chosen-refuses, chosen-refuses-by-nine, chosen-best, best-chosen}
 use Rattle.demands.specs.Checks.{_otherwise_, AllHold, Decided}
-use Rattle.demands.specs.Admitted.{FittingGrouping, planChecks, compileChecks}
+use Rattle.demands.specs.Admitted.{FittingCells, FittingGrouping, planChecks, compileChecks}
 use Rattle.demands.specs.Laws.Checks.{decided-accepted, decided-unless, decided-then, decided-map, decided-otherwise, all-append, answers-value, buffer-written, buffer-kept}
 use Rattle.demands.specs.Laws.Diagram.{decided-table}
 use Rattle.numbers.specs.Laws.Tests.{le-test, eq-test, and-test, limit-test, every-test}
@@ -51,28 +51,31 @@ fits-from-test n table limit h (g ∷ sizes) =
     keeps p (suc j) l = subst (λ c. railAt n table c + getD sizes j 0 ≤ limit) (sym (joined (sumOf (take j sizes)))) (p .1 j (omega arith))
 
 -- The tests by which groupings and the limit are judged are the paper's conditions.
-fitting-test : (n : ℕ) (table : List ℤ) (limit : ℕ) (sizes : List ℕ) → ((isGrouping n sizes && fits n table limit sizes) ≡ true) ↔ FittingGrouping n table limit sizes
+fitting-test : (n : ℕ) (table : List ℤ) (limit h : ℕ) (sizes : List ℕ) → ((isGrouping h sizes && fits n table limit sizes) ≡ true) ↔ FittingCells n table limit h sizes
 unfolding isGrouping fits KeepFrom
-fitting-test n table limit sizes =
+fitting-test n table limit h sizes =
     let some = every (leb 1) sizes in
-    let sum = eqb (sumOf sizes) n in
+    let sum = eqb (sumOf sizes) h in
     let none-before : (j : ℕ) → 0 + sumOf (take j sizes) ≡ sumOf (take j sizes) = λ j. omega arith in
     let i =
     and-test (some && sum) (fitsFrom n table limit 0 sizes)
-    (and-test some sum (every-test (leb 1) sizes 0 (le-test 1)) (eq-test (sumOf sizes) n))
+    (and-test some sum (every-test (leb 1) sizes 0 (le-test 1)) (eq-test (sumOf sizes) h))
     (fits-from-test n table limit 0 sizes)
     in (
-      (λ h.
-          let r = i .0 h in
+      (λ e.
+          let r = i .0 e in
           record { some = r .0 .0; sum = r .0 .1; keeps = λ j l. rw (none-before j) at (r .1 j l) }),
       (λ r. i .1 ((r .some, r .sum), λ j l. rw (none-before j) (r .keeps j l))),
     )
 
-pub fitting-tests : (n : ℕ) (table : List ℤ) (limit : ℕ) (sizes : List ℕ) → FittingGrouping n table limit sizes ↔ ((isGrouping n sizes ≡ true) × (fits n table limit sizes ≡ true))
-fitting-tests n table limit sizes = let i = fitting-test n table limit sizes in (
-  (λ f. both (isGrouping n sizes) (fits n table limit sizes) (i .1 f)),
-  (λ t. i .0 (and-both (isGrouping n sizes) (fits n table limit sizes) (t .0) (t .1))),
+pub fitting-cells : (n : ℕ) (table : List ℤ) (limit h : ℕ) (sizes : List ℕ) → FittingCells n table limit h sizes ↔ ((isGrouping h sizes ≡ true) × (fits n table limit sizes ≡ true))
+fitting-cells n table limit h sizes = let i = fitting-test n table limit h sizes in (
+  (λ f. both (isGrouping h sizes) (fits n table limit sizes) (i .1 f)),
+  (λ t. i .0 (and-both (isGrouping h sizes) (fits n table limit sizes) (t .0) (t .1))),
 )
+
+pub fitting-tests : (n : ℕ) (table : List ℤ) (limit : ℕ) (sizes : List ℕ) → FittingGrouping n table limit sizes ↔ ((isGrouping n sizes ≡ true) × (fits n table limit sizes ≡ true))
+fitting-tests n table limit = fitting-cells n table limit n
 
 module _ (n : ℕ) (table : List ℤ) (limit : ℕ) where
   -- Some grouping fits exactly where one is chosen.

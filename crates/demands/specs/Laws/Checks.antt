@@ -25,23 +25,29 @@ one-answer a k e h = not-refused a k (sym e ∙ h)
 same-number : {A : Type 0} (j k : ℕ) → _≡_ {A = Answer A} (refused j) (refused k) → j ≡ k
 same-number j k h = cc
 
--- One test, and what follows it.
-pub decided-unless : {A : Type 0} {P : Type 0} {number : ℕ} {rest : Answer A} {checks : List Check} (b : Bool) → (b ≡ true) ↔ P → Decided rest checks → Decided (unless b number rest) ((P otherwise number) ∷ checks)
+-- One test, and what follows it where it passes.
+pub decided-passing : {A : Type 0} {P : Type 0} {number : ℕ} {rest : Answer A} {checks : List Check} (b : Bool) → (b ≡ true) ↔ P → (b ≡ true → Decided rest checks) → Decided (unless b number rest) ((P otherwise number) ∷ checks)
 unfolding AllHold FirstFails
-decided-unless {number = number} true t d = record {
-  accepts = ((λ h. d .accepts .0 (h .1)), (λ s. (t .0 refl, d .accepts .1 s)));
-  refuses = λ k. (
-    (λ h. elim h [ inl f ↦ absurd (f .0 (t .0 refl)) | inr l ↦ d .refuses k .0 (l .1) ]),
-    (λ e. inr (t .0 refl, d .refuses k .1 e)),
-  );
-}
-decided-unless {number = number} false t d = record {
+decided-passing {number = number} true t next =
+    let d = next refl in
+    record {
+      accepts = ((λ h. d .accepts .0 (h .1)), (λ s. (t .0 refl, d .accepts .1 s)));
+      refuses = λ k. (
+        (λ h. elim h [ inl f ↦ absurd (f .0 (t .0 refl)) | inr l ↦ d .refuses k .0 (l .1) ]),
+        (λ e. inr (t .0 refl, d .refuses k .1 e)),
+      );
+    }
+decided-passing {number = number} false t next = record {
   accepts = ((λ h. absurd (false≢true (t .1 (h .0)))), (λ s. not-refused (s .0) number (sym (s .1))));
   refuses = λ k. (
     (λ h. elim h [ inl f ↦ ap refused (sym (f .1)) | inr l ↦ absurd (false≢true (t .1 (l .0))) ]),
     (λ e. inl ((λ p. absurd (false≢true (t .1 p))), sym (same-number number k e))),
   );
 }
+
+-- One test, and what follows it in any case.
+pub decided-unless : {A : Type 0} {P : Type 0} {number : ℕ} {rest : Answer A} {checks : List Check} (b : Bool) → (b ≡ true) ↔ P → Decided rest checks → Decided (unless b number rest) ((P otherwise number) ∷ checks)
+decided-unless b t d = decided-passing b t (λ h. d)
 
 -- ---- one order after another
 

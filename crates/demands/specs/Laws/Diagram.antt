@@ -114,7 +114,7 @@ record-test n list k =
     )
 
 -- All of the list.
-list-test : (n : ℕ) (list : List ℤ) → (listFits n list ≡ true) ↔ RecordList n list
+pub list-test : (n : ℕ) (list : List ℤ) → (listFits n list ≡ true) ↔ RecordList n list
 unfolding listFits nodeRoom recordSize recordCount
 list-test n list =
     let whole = eqb (length list % 6) 0 in

@@ -79,7 +79,7 @@ end-test image p = by-due (due p)
     by-due end = ((λ h. refl), (λ e. refl))
 
 -- A step goes by the checks of its place.
-decided-step : (image : List ℕ) (p : Place) → Decided (step image p) (placeChecks image p)
+pub decided-step : (image : List ℕ) (p : Place) → Decided (step image p) (placeChecks image p)
 unfolding step judged placeChecks commandHere
 decided-step image p =
     let command = commandAt (due p) image (p .at) in
@@ -92,7 +92,7 @@ decided-step image p =
     (decided-accepted (command, placeAfter p command)))))))
 
 -- An accepted step reads the command at its place and goes behind it.
-step-goes : (image : List ℕ) (p : Place) (command : Command) (q : Place) → step image p ≡ accepted (command, q) → (command ≡ commandHere image p) × (q ≡ placeAfter p (commandHere image p))
+pub step-goes : (image : List ℕ) (p : Place) (command : Command) (q : Place) → step image p ≡ accepted (command, q) → (command ≡ commandHere image p) × (q ≡ placeAfter p (commandHere image p))
 unfolding commandHere
 step-goes image p command q e =
     let s = step-accepted image p command q e in

@@ -6,6 +6,7 @@ use lib.ListN.{length, getD, take}
 use lib.IntN.{ℤ, pos, negℤ, natAbs}
 use lib.Signed.{_<ℤ_}
 use Rattle.numbers.specs.Conditions.{Between, Variables, Limit, TableValue, Domain, LeastOver, GreatestOver}
+use Rattle.numbers.specs.Answers.{accepted}
 use Rattle.numbers.specs.Lists.{sumOf}
 use Rattle.numbers.specs.Widths.{weightWidth}
 use Rattle.blocks.specs.Classes.{railAt}
@@ -17,8 +18,8 @@ use Rattle.image.specs.WellFormed.{KeepsShape, KeepsWord, WellFormed}
 use Rattle.image.specs.declared.Command.{Command}
 use Rattle.image.specs.declared.Command.the-variants.{Table, Cell, Word, End}
 use Rattle.image.specs.declared.Place.{Place}
-use Rattle.cascade.specs.Compile.{imageFor}
-use Rattle.cascade.specs.Groupings.{BestGrouping}
+use Rattle.cascade.specs.Compile.{imageFor, ImageSummary, compileAnswer, compileBuffer, compiledImage}
+use Rattle.cascade.specs.Groupings.{BestGrouping, cost}
 use Rattle.demands.specs.Checks.{Check, _otherwise_, AllHold, FirstFails}
 
 -- ---- Build
@@ -37,7 +38,8 @@ buildChecks n table room = tableChecks n table ++ (6 * (2 ^ n - 1) ≤ room) oth
 
 -- ---- Walk
 
--- A child of record k: from 0 to its own number less 1, and where it is not node 0 its variable is below that of record k.
+-- A child of record k: from 0 to its own number less 1, and where it is not node 0 its variable is below that of
+-- record k.
 pub record ListedChild (list : List ℤ) (k : ℕ) (child : ℤ) : Type 0 where
   pub earlier : Between (pos 0) (pos (k - 1)) child
   pub lower : ¬ (child ≡ pos 0) → variableAt list (natAbs child) <ℤ variableAt list k
@@ -68,8 +70,9 @@ walkChecks n offset list x =
 
 -- ---- Plan and Compile
 
--- A list of cells from cut 0 that arrives at cut h and fits: sizes, each at least 1, with sum h, and the cell of each size keeps to the address
--- limit: the rail width at its cut, which lies below the variables of the sizes before it, and its size.
+-- A list of cells from cut 0 that arrives at cut h and fits: sizes, each at least 1, with sum h, and the cell of each
+-- size keeps to the address limit: the rail width at its cut, which lies below the variables of the sizes before it,
+-- and its size.
 pub record FittingCells (n : ℕ) (table : List ℤ) (limit h : ℕ) (sizes : List ℕ) : Type 0 where
   pub some : (j : ℕ) → j < length sizes → 1 ≤ getD sizes j 0
   pub sum : sumOf sizes ≡ h
@@ -90,7 +93,18 @@ planChecks n table limit =
 -- Compile: 1, 2, 3, 8, 9, then image buffer shorter than the image, that of the chosen grouping, is 10.
 unfoldable pub compileChecks : ℕ → List ℤ → ℕ → ℕ → List Check
 compileChecks n table limit room =
-    planChecks n table limit ++ ((best : List ℕ) → BestGrouping n table limit best → length (imageFor n table best) ≤ room) otherwise 10 ∷ []
+    planChecks n table limit
+    ++ ((best : List ℕ) → BestGrouping n table limit best → length (imageFor n table best) ≤ room) otherwise 10
+    ∷ []
+
+-- Compile gives the image of a grouping into a buffer: it is accepted, and what it leaves is that image, with the
+-- number of its cells and its cost.
+pub record GivesImage (n : ℕ) (table : List ℤ) (limit : ℕ) (best buffer : List ℕ) : Type 0 where
+  pub summary : ImageSummary
+  pub answered : compileAnswer n table limit (length buffer) ≡ accepted summary
+  pub written : compiledImage summary (compileBuffer n table limit buffer) ≡ imageFor n table best
+  pub cells : summary .planned .cells ≡ length best
+  pub bits : summary .planned .bits ≡ cost n table best
 
 -- ---- Run and Expand
 
@@ -98,15 +112,17 @@ compileChecks n table limit room =
 unfoldable pub OperandRules : Place → Command → Type 0
 OperandRules p (Table n offset) = Variables n × TableValue offset
 OperandRules p (Cell group incoming outgoing width) = KeepsShape (p .left) (p .classes) group incoming outgoing
-OperandRules p (Word class weight) = KeepsWord (p .classes) (p .words % 2 ^ p .group) (record { class = class; weight = weight })
+OperandRules p (Word class weight) =
+    KeepsWord (p .classes) (p .words % 2 ^ p .group) (record { class = class; weight = weight })
 OperandRules p (End bits) = bits ≡ p .bits
 
 -- The command at a place, with its operands.
 unfoldable pub commandHere : List ℕ → Place → Command
 commandHere image p = commandAt (due p) image (p .at)
 
--- At each place: a width that is not least is 13, before the next command byte is read; no byte there is 11; a command byte not allowed there
--- is 12; operands cut off is 11; an operand rule broken is 13; bytes after 0x45 are 14.
+-- At each place: a width that is not least is 13, before the next command byte is read; no byte there is 11; a
+-- command byte not allowed there is 12; operands cut off is 11; an operand rule broken is 13; bytes after 0x45 are
+-- 14.
 unfoldable pub placeChecks : List ℕ → Place → List Check
 placeChecks image p =
     (p .words ≡ 0 → p .width ≡ weightWidth (p .least ∷ p .greatest ∷ [])) otherwise 13
@@ -117,12 +133,15 @@ placeChecks image p =
     ∷ (due p ≡ end → length image ≡ p .at + endSize) otherwise 14
     ∷ []
 
--- The places that checking from the left comes to: the start, and after each command but 0x45 that keeps to its checks the place behind it.
+-- The places that checking from the left comes to: the start, and after each command but 0x45 that keeps to its
+-- checks the place behind it.
 pub data ComesTo (image : List ℕ) : Place → Type 0 where
   first : ComesTo image start
-  next : (p : Place) → ComesTo image p → AllHold (placeChecks image p) → ¬ (due p ≡ end) → ComesTo image (placeAfter p (commandHere image p))
+  next : (p : Place) → ComesTo image p → AllHold (placeChecks image p) → ¬ (due p ≡ end)
+      → ComesTo image (placeAfter p (commandHere image p))
 
--- Checking from the left finds a fault of this number: that of the first check which fails at a place that is reached.
+-- Checking from the left finds a fault of this number: that of the first check which fails at a place that is
+-- reached.
 unfoldable pub ImageFault : List ℕ → ℕ → Type 0
 ImageFault image k = (p : Place) × (ComesTo image p × FirstFails (placeChecks image p) k)
 

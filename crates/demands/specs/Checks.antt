@@ -1,4 +1,5 @@
--- An order of checks: conditions, each with the number that its failure gives, and what it means that an operation goes by them.
+-- An order of checks: conditions, each with the number that its failure gives, and what it means that an operation
+-- goes by them.
 use Prim.Native.Nat.{ℕ}
 use mathlib.Core.Path.{_≡_}
 use mathlib.Core.Logic.{_↔_, _⊎_}
@@ -25,7 +26,8 @@ unfoldable pub FirstFails : List Check → ℕ → Type 0
 FirstFails [] k = ⊥
 FirstFails (check ∷ checks) k = ((¬ check .holds) × check .gives k) ⊎ (check .holds × FirstFails checks k)
 
--- An answer goes by an order of checks: accepted exactly where all hold, refused with k exactly where the first that fails gives k.
+-- An answer goes by an order of checks: accepted exactly where all hold, refused with k exactly where the first that
+-- fails gives k.
 pub record Decided {A : Type 0} (answer : Answer A) (checks : List Check) : Type 0 where
   pub accepts : AllHold checks ↔ ((a : A) × (answer ≡ accepted a))
   pub refuses : (k : ℕ) → FirstFails checks k ↔ (answer ≡ refused k)

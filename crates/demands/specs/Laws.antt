@@ -1,9 +1,9 @@
 -- What is proved of the definitions of this crate; a file stands behind those whose laws it cites.
 pub mod Checks
 pub mod Clients
+pub mod Counts
 pub mod Diagram
 pub mod Cascade
-pub mod Demands
 pub mod Image
 pub mod Pairs
 pub mod Reach

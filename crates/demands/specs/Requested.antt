@@ -1,5 +1,5 @@
--- What the requests of document 02 admit, those that stand: for each operation its conditions in the request's order, each with its own number, and
--- what its answers are to be.
+-- What the requests of document 02 admit, those that stand: for each operation its conditions in the request's order,
+-- each with its own number, and what its answers are to be.
 use Prim.Native.Nat.{ℕ, _+_, _-_, _*_, _^_, _≤_, _<_}
 use mathlib.Core.Path.{_≡_}
 use mathlib.Core.Logic.{_↔_}
@@ -29,7 +29,8 @@ reportChecks n offset list a b =
     ∷ ((a ≤ b) × (b < 2 ^ n)) otherwise 15
     ∷ []
 
--- The figures over the X from a to b, both included: how many X there are, and the least, the greatest and the exact sum of Walk's values there.
+-- The figures over the X from a to b, both included: how many X there are, and the least, the greatest and the exact
+-- sum of Walk's values there.
 pub record FiguresOver (n : ℕ) (offset : ℤ) (list : List ℤ) (a b : ℕ) (f : Figures) : Type 0 where
   pub counted : f .count ≡ b - a + 1
   pub least : LeastOver (Part a b) (walkValue n offset list) (f .least)
@@ -42,8 +43,8 @@ pub record FiguresOver (n : ℕ) (offset : ℤ) (list : List ℤ) (a b : ℕ) (f
 unfoldable pub firstN : List ℕ → ℕ
 firstN image = unsignedAt image 1 1
 
--- Checking an image for a given n finds a fault: 13 where its 0x56 keeps to its checks and carries another n, before any later byte is looked at;
--- else what checking finds as ever.
+-- Checking an image for a given n finds a fault: 13 where its 0x56 keeps to its checks and carries another n, before
+-- any later byte is looked at; else what checking finds as ever.
 pub data FaultFor (n : ℕ) (image : List ℕ) : ℕ → Type 0 where
   another : AllHold (placeChecks image start) → ¬ (firstN image ≡ n) → FaultFor n image 13
   asEver : {k : ℕ} → (AllHold (placeChecks image start) → firstN image ≡ n) → ImageFault image k → FaultFor n image k
@@ -66,7 +67,8 @@ pairChecks m image x y =
 unfoldable pub reachChecks : ℕ → List ℤ → ℕ → List Check
 reachChecks n table limit = tableChecks n table ++ Limit limit otherwise 8 ∷ []
 
--- All cuts that some list of fitting cells from cut 0 arrives at and no others, in rising order, and the least limit: it fits, and none smaller does.
+-- All cuts that some list of fitting cells from cut 0 arrives at and no others, in rising order, and the least limit:
+-- it fits, and none smaller does.
 pub record ReachOf (n : ℕ) (table : List ℤ) (limit : ℕ) (f : Reachable) : Type 0 where
   pub listed : (h : ℕ) → ((h ≤ n) × ((sizes : List ℕ) × FittingCells n table limit h sizes)) ↔ List·Memᴰ h (f .cuts)
   pub rising : (j k : ℕ) → j < k → k < length (f .cuts) → getD (f .cuts) j 0 < getD (f .cuts) k 0
@@ -90,7 +92,9 @@ roomCheck n room = (room ≡ 2 ^ n) otherwise 2 ∷ []
 -- Sum: some sum out of the value range is 18.
 unfoldable pub sumChecks : ℕ → List ℤ → ℕ → List Check
 sumChecks n weights room =
-    weightChecks n weights ++ ((x : ℕ) → x < 2 ^ length weights → TableValue (sumAt weights x)) otherwise 18 ∷ roomCheck n room
+    weightChecks n weights
+    ++ ((x : ℕ) → x < 2 ^ length weights → TableValue (sumAt weights x)) otherwise 18
+    ∷ roomCheck n room
 
 -- Remainder: q outside 1..11 is 19.
 unfoldable pub remainderChecks : ℕ → List ℤ → ℕ → ℕ → List Check

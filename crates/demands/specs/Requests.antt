@@ -1,5 +1,6 @@
--- What the requests of document 02 are trusted for, those that stand, paragraph by paragraph, in the form of Demands: by which checks each operation is
--- decided, what it answers, what each lent buffer then holds, and the facts that the paragraph states.
+-- What the requests of document 02 are trusted for, those that stand, paragraph by paragraph, in the form of Demands:
+-- by which checks each operation is decided, what it answers, what each lent buffer then holds, and the facts that
+-- the paragraph states.
 use Prim.Native.Nat.{ℕ, suc, _+_, _-_, _*_, _/_, _^_, _≤_, _<_}
 use mathlib.Core.Path.{_≡_}
 use mathlib.Core.List.{List, _++_}
@@ -31,7 +32,8 @@ use Rattle.demands.specs.Laws.Sums.{decided-sum, sum-value, decided-rema
 
 -- ==== W-201. Least and greatest beside each node
 
--- What is no record list, also because a fifth or a sixth number is untrue, is 6: for Walk at every X, for the report over every part.
+-- What is no record list, also because a fifth or a sixth number is untrue, is 6: for Walk at every X, for the report
+-- over every part.
 pub untrue-numbers-are-6 : (n : ℕ) (offset : ℤ) (list : List ℤ)
     → Variables n → TableValue offset → ¬ RecordList n list
     → ((x : ℕ) → walk n offset list x ≡ refused 6) × ((a b : ℕ) → report n offset list a b ≡ refused 6)
@@ -84,7 +86,8 @@ module _ (n : ℕ) (table : List ℤ) (limit : ℕ) where
   pub reach-decided : Decided (reachAnswer n table limit) (reachChecks n table limit)
   reach-decided = decided-reach n table limit
 
-  -- Admitted: the cuts that fitting cells arrive at and the least limit that fits, where Plan succeeds and where it does not.
+  -- Admitted: the cuts that fitting cells arrive at and the least limit that fits, where Plan succeeds and where it
+  -- does not.
   pub reach-answers : AllHold (reachChecks n table limit)
       → (reach n table limit ≡ accepted (reachable n table limit)) × ReachOf n table limit (reachable n table limit)
   reach-answers all = (reach-value n table limit all, reach-of n table limit all)

@@ -9,18 +9,21 @@ use lib.ListN.{length, getD, take, drop, replicate}
 use lib.IntN.{ℤ}
 use lib.Dec.{leb, eqb}
 use Rattle.numbers.specs.Answers.{Answer, accepted, refused, mapAnswer}
+use Rattle.numbers.specs.Conditions.{Limit}
 use Rattle.numbers.specs.Lists.{every, padded, sumOf}
 use Rattle.numbers.specs.Ranges.{mostVariables, isVariables, isLimit, isValue}
 use Rattle.numbers.specs.Laws.Answers.{not-refused, unless-accepted, map-refused}
 use Rattle.numbers.specs.Laws.Bools.{both, and-both}
 use Rattle.blocks.specs.Classes.{railAt}
+use Rattle.diagram.specs.Accepted.{Accepted}
 use Rattle.diagram.specs.Build.{ofTable}
-use Rattle.cascade.specs.Compile.{imageFor, compile, imageSummary, compileAnswer, compileCells, compileBuffer}
-use Rattle.cascade.specs.Groupings.{BestGrouping, addressWidth, fitsFrom, fits, chosen, isGrouping}
+use Rattle.cascade.specs.Compile.{imageFor, compile, ImageSummary, imageSummary, compileAnswer, compileCells, compileBuffer}
+use Rattle.cascade.specs.Groupings.{BestGrouping, addressWidth, fitsFrom, fits, chosen, isGrouping, cost}
 use Rattle.cascade.specs.Plan.{plan, planCells, noCell, entries, sizeArray, cellArray, totals, planAnswer}
+use Rattle.cascade.specs.Theorems as cascades
 use Rattle.cascade.specs.Laws.Chosen.{chosen-refuses, chosen-refuses-by-nine, chosen-best, best-chosen}
 use Rattle.demands.specs.Checks.{_otherwise_, AllHold, Decided}
-use Rattle.demands.specs.Admitted.{FittingCells, FittingGrouping, planChecks, compileChecks}
+use Rattle.demands.specs.Admitted.{FittingCells, FittingGrouping, GivesImage, planChecks, compileChecks}
 use Rattle.demands.specs.Laws.Checks.{decided-accepted, decided-unless, decided-then, decided-map, decided-otherwise, all-append, answers-value, buffer-written, buffer-kept}
 use Rattle.demands.specs.Laws.Diagram.{decided-table}
 use Rattle.numbers.specs.Laws.Tests.{le-test, eq-test, and-test, limit-test, every-test}
@@ -193,3 +196,17 @@ module _ (n : ℕ) (table : List ℤ) (limit : ℕ) where
   pub compile-cells-refused : (room k : ℕ) → compileAnswer n table limit room ≡ refused k → compileCells n table limit room ≡ replicate 12 noCell
   unfolding compileAnswer compileCells cellArray entries mostVariables padded
   compile-cells-refused room k h = rw (map-refused (imageSummary n table) (compile n table limit room) k h)
+
+-- ---- what Compile gives where some grouping fits
+
+pub gives-image : (n : ℕ) (table : List ℤ) → Accepted n table → (limit : ℕ) → Limit limit → (sizes : List ℕ) → FittingGrouping n table limit sizes
+    → (best : List ℕ) × (BestGrouping n table limit best × ((buffer : List ℕ) → length (imageFor n table best) ≤ length buffer → GivesImage n table limit best buffer))
+gives-image n table admitted limit l sizes fitting =
+    let t = fitting-tests n table limit sizes .0 fitting in
+    let g = cascades.compile-gives n table admitted limit (limit-test limit .1 l) sizes (t .0) (t .1) in
+    (g .0, (g .1, λ buffer room. let r = g .2 buffer room in record { summary = r .0; answered = r .1; written = r .2; cells = r .3; bits = r .4 }))
+
+pub fitting-costs-as-many : (n : ℕ) (table : List ℤ) (limit : ℕ) (buffer : List ℕ) (r : ImageSummary) → compileAnswer n table limit (length buffer) ≡ accepted r → (sizes : List ℕ) → FittingGrouping n table limit sizes → r .planned .bits ≤ cost n table sizes
+fitting-costs-as-many n table limit buffer r compiled sizes fitting =
+    let t = fitting-tests n table limit sizes .0 fitting in
+    cascades.compiled-least n table limit buffer r compiled sizes (t .0) (t .1)

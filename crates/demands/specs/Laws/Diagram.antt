@@ -14,7 +14,7 @@ use Rattle.numbers.specs.Lists.{every, numbersFrom}
 use Rattle.numbers.specs.Ranges.{isVariables, isValue, isWeight, within, eqZ}
 use Rattle.numbers.specs.Laws.Extremal.{leasts, greatests}
 use Rattle.numbers.specs.Laws.Integers.{eqZ-true, eqZ-refl}
-use Rattle.diagram.specs.Accepted.{written}
+use Rattle.diagram.specs.Accepted.{written, Accepted}
 use Rattle.diagram.specs.Records.{recordSize, records}
 use Rattle.diagram.specs.Build.{ofTable, nodeRoom, build, buildAnswer, buildBuffer, summaryOf}
 use Rattle.diagram.specs.Theorems.{build-answers, build-leaves}
@@ -35,6 +35,14 @@ decided-table n table d =
     (decided-unless (eqb (length table) (2 ^ n)) (eq-test (length table) (2 ^ n))
     (decided-unless (every isValue table) (every-test isValue table (pos 0) value-test)
     d))
+
+-- What passes them is an accepted table.
+pub accepted-table : (n : ℕ) (table : List ℤ) → AllHold (tableChecks n table) ↔ Accepted n table
+unfolding tableChecks AllHold
+accepted-table n table = (
+  (λ h. record { variables = variables-test n .1 (h .0); size = h .1 .0; values = every-test isValue table (pos 0) value-test .1 (h .1 .1 .0) }),
+  (λ a. (variables-test n .0 (a .variables), (a .size, (every-test isValue table (pos 0) value-test .0 (a .values), tt)))),
+)
 
 -- Build: the table, then the room for the records.
 pub decided-build : (n : ℕ) (table : List ℤ) (room : ℕ) → Decided (buildAnswer n table room) (buildChecks n table room)

@@ -6,6 +6,7 @@ use mathlib.Core.Bool.{Bool, true, false, true≢false, false≢true}
 use mathlib.Core.List.{List, [], _∷_}
 use native.Mathlib.Omega.{arith}
 use lib.ListN.{length, getD}
+use lib.IntN.{ℤ}
 use lib.Dec.{leb, ltb, eqb}
 use Rattle.numbers.specs.Answers.{Answer, accepted, refused, andThen}
 use Rattle.numbers.specs.Ranges.{isVariables, isValue}
@@ -16,8 +17,9 @@ use Rattle.operands.specs.Bytes.{AreBytes}
 use Rattle.image.specs.Cells.{Card}
 use Rattle.image.specs.Commands.{cardOf, cardCommands, imageOf}
 use Rattle.image.specs.Reader.{Due, table, cell, word, end, due, dueByte, dueSize, commandAt, keepsRules, placeAfter, widthIsLeast, endsWell, judged, step, followedBy, readFrom, start, reading}
-use Rattle.image.specs.Run.{run, runCard, expand, cardValues}
+use Rattle.image.specs.Run.{run, runCard, expand, expandBuffer, cardValues}
 use Rattle.image.specs.Theorems.{accepted-card, accepted-image, card-image, card-described, card-run, card-expand}
+use Rattle.image.specs.Theorems as images
 use Rattle.image.specs.Inner.Kinds.{isEnd}
 use Rattle.image.specs.Laws.Reading.{followed-on, followed-last, step-moves, Checking, checking-start, checking-refused, checking-on}
 use Rattle.image.specs.Laws.Rules.{shape-test, shape-facts, word-test, word-facts}
@@ -207,3 +209,10 @@ module _ (image : List ℕ) where
     pub expand-value : (room : ℕ) → room ≡ 2 ^ card .n → expand image room ≡ accepted (cardValues card)
     unfolding ImageOf
     expand-value room e = ap (λ i. expand i room) (is .1) ∙ ap (expand (imageOf card)) e ∙ card-expand card (is .0)
+
+    -- They fill the buffer.
+    pub expand-filled : (buffer : List ℤ) → length buffer ≡ 2 ^ card .n → expandBuffer image buffer ≡ cardValues card
+    expand-filled buffer e = images.expand-writes image buffer (cardValues card) (expand-value (length buffer) e)
+
+pub expand-buffer : (image : List ℕ) (buffer : List ℤ) (card : Card) → ImageOf image card → length buffer ≡ 2 ^ card .n → expandBuffer image buffer ≡ cardValues card
+expand-buffer image buffer card is = expand-filled image card is buffer

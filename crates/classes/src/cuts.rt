@@ -8,8 +8,8 @@ ghost use Rattle.classes.specs.Inner.Noting.{latestClass, countNoted, fi
 ghost use Rattle.classes.specs.Inner.Classing.{CutRoom, CutClassed};
 use crate::search::Found;
 
-// What the search finds for block j of a cut: at cut 0 the block is the table, below it a half of a block of the cut above, the
-// upper half being the part that begins in that block's middle.
+// What the search finds for block j of a cut. Its first block has a new class, that of the whole table at cut 0; any other is a half of
+// a block of the cut above, the upper half being the part that begins in that block's middle.
 fn find_block(
     table: &[i32],
     size: usize,
@@ -21,19 +21,21 @@ fn find_block(
     requires { ⌜ BlocksBefore (now table) size j (now firsts) (now «use_counts») latest ⌝ }
     ensures { λ r. ⌜ r ≡ foundAt (cutLists (now (table .entry)) size (length (now (table .entry)) / size)) j ⌝ }
 {
-    if size == table.len() {
-        return crate::search::find_class(table, size, firsts, use_counts, latest, table);
+    if j == 0 {
+        // No class is known yet.
+        return Found {
+            class: 0,
+            tried: 0,
+            uses: 1,
+        };
     }
     let start = j / 2 * (2 * size);
     let end = start + 2 * size;
     let above = &table[start..end];
     let middle = above.len() / 2;
-    if j % 2 == 0 {
-        let lower = &above[..middle];
-        return crate::search::find_class(table, size, firsts, use_counts, latest, lower);
-    }
-    let upper = &above[middle..];
-    crate::search::find_class(table, size, firsts, use_counts, latest, upper)
+    let from = if j % 2 == 0 { 0 } else { middle };
+    let to = from + middle;
+    crate::search::find_class(table, size, firsts, use_counts, latest, &above[from..to])
 }
 
 // The latest class at block j: that of the block just before, and 0 at the first block, where no class is known.

@@ -7,19 +7,23 @@ use native.Mathlib.Omega.{arith}
 use lib.ListN.{length, getD, take, length-map}
 use lib.Seq.{ext-getD, getD-take, length-take-le}
 use lib.IntN.{ℤ}
-use Rattle.numbers.specs.Lists.{numbersFrom}
+use Rattle.numbers.specs.Lists.{numbersFrom, keep, tally}
 use Rattle.numbers.specs.Laws.Lists.{length-range, getD-range, getD-map}
 use Rattle.blocks.specs.Blocks.{differences}
-use Rattle.blocks.specs.Classes.{numberIn, distinct}
+use Rattle.blocks.specs.Classes.{numberIn, learnAll, distinct}
 use Rattle.blocks.specs.Inner.Layout.{part}
+use Rattle.blocks.specs.Rows.{numbersOf}
 use Rattle.blocks.specs.Tries.{numberTried, blockClass, knownBefore, triedAt}
+use Rattle.blocks.specs.Uses.{useCount, usesAt}
+use Rattle.blocks.specs.Laws.Counting.{uses-include}
 use Rattle.blocks.specs.Laws.Known.{number-at, number-by, own-distinct, Among, distinct-seen}
-use Rattle.blocks.specs.Laws.Latest.{class-met, latest-known}
+use Rattle.blocks.specs.Laws.Latest.{none-before, class-met, latest-known}
+use Rattle.blocks.specs.Laws.Order.{tried-none}
 use Rattle.classes.specs.declared.search.Found.{Found}
 use Rattle.classes.specs.Inner.Searching.{partDifferences, KnownClasses, usesWith, SmallCounts, foundAmong}
 use Rattle.classes.specs.Inner.Finding.{cutLists, foundAt, firstsBefore, usesBefore, BlocksBefore}
 use Rattle.classes.specs.Laws.Searching.{length-parts, part-at}
-use Rattle.classes.specs.Laws.Uses.{uses-few, uses-are}
+use Rattle.classes.specs.Laws.Uses.{length-numbers, uses-few, uses-are}
 
 pub length-cut-lists : (table : List ℤ) (size count : ℕ) → length (cutLists table size count) ≡ count
 length-cut-lists table size count = length-parts table size (numbersFrom 0 count) ∙ length-range 0 count
@@ -108,6 +112,17 @@ module _ (table : List ℤ) (size count j : ℕ) (below : j < count) where
       count-is : length (partDifferences table size (firstsBefore ds j)) ≡ knownBefore ds j
       count-is = length-parts table size (firstsBefore ds j) ∙ known-count
 
+-- What is found for the first block.
+found-first : (ds : List (List ℤ)) → 0 < length ds → foundAt ds 0 ≡ record { class = 0; tried = 0; uses = 1 }
+unfolding foundAt triedAt distinct learnAll numberIn useCount tally keep
+found-first ds some = λ t. record { class = class t; tried = (ap (λ k. numberTried k (blockClass ds (0 - 1)) (blockClass ds 0)) (none-before ds) ∙ tried-none (blockClass ds (0 - 1)) (blockClass ds 0)) t; uses = uses t }
+  where
+    class : blockClass ds 0 ≡ 0
+    class = class-met ds 0 some
+
+    uses : usesAt (numbersOf ds) 0 ≡ 1
+    uses = uses-include (numbersOf ds) 0 (rw length-numbers some)
+
 -- ---- what the search is lent and finds
 
 module _ {table : List ℤ} {size j : ℕ} {firsts useCounts : List ℕ} {latest : ℕ} (b : BlocksBefore table size j firsts useCounts latest) where
@@ -126,3 +141,7 @@ module _ {table : List ℤ} {size j : ℕ} {firsts useCounts : List ℕ} {latest
       ∙ ap₂ (λ f u. foundAmong (partDifferences table size f) u latest (differences (part table size j))) (b .placed) (b .useCounted)
       ∙ ap (λ l. foundAmong (partDifferences table size (firstsBefore (cutLists table size (length table / size)) j)) (usesBefore (cutLists table size (length table / size)) j) l (differences (part table size j))) (b .latestBefore)
       ∙ known-found table size (length table / size) j (b .inside)
+
+  -- At the first block nothing is known: its class is new, none is tried, and it is the first to have it.
+  pub first-found : j ≡ 0 → record { class = 0; tried = 0; uses = 1 } ≡ foundAt (cutLists table size (length table / size)) j
+  first-found zeroth = sym (ap (foundAt (cutLists table size (length table / size))) zeroth ∙ found-first (cutLists table size (length table / size)) (rw length-cut-lists (let i = b .inside in omega arith)))

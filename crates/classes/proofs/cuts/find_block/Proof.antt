@@ -1,29 +1,25 @@
--- `cuts::find_block` meets its contract: what is searched for is block j, as the table or as a half. Assumes nothing.
-use Prim.Native.Nat.{_+_, _*_, _/_, _^_, _≤_, _<_}
-use mathlib.Core.Path.{_≡_, sym}
+-- `cuts::find_block` meets its contract: the first block is new, and what is searched for else is block j, as a half of a block of the cut
+-- above. Assumes nothing.
+use Prim.Native.Nat.{_+_, _*_, _/_, _%_, _^_, _≤_, _<_}
+use mathlib.Core.Path.{_≡_}
 use mathlib.Core.List.{List}
+use mathlib.Core.Logic.{_⊎_, inl, inr, ⊎-elim}
 use native.Mathlib.Nat.{div-le-self}
 use native.Mathlib.Omega.{arith}
 use lib.ListN.{length}
-use lib.Seq.{length-take-le}
 use lib.IntN.{ℤ}
 use borrow.Author.Needs.{needs}
-use Rattle.classes.specs.Laws.Halves.{above, middle, table-part, above-inside, lower-half, upper-half}
-use Rattle.classes.specs.Laws.Finding.{search-ready, search-finds}
+use Rattle.classes.specs.Laws.Halves.{above, middle, above-inside, half-inside, half-part}
+use Rattle.classes.specs.Laws.Finding.{search-ready, search-finds, first-found}
 use Rattle.classes.proofs.cuts.find_block.Statement.{statement}
 use Rattle.classes.proofs.cuts.find_block.Tie as tie
+
+returns : tie.Need-returns
+returns c = first-found (c .before .before .before .pre) (c .if1 .taken)
 
 -- The number of a block is small.
 small : (s : tie.Start) → s .args .j < 2 ^ 63
 small s = let i = s .pre .inside in let d = div-le-self (length (s .args .table .now)) (s .args .size) in let g = s .good .0 .1 in omega arith
-
-find-class-requires : tie.Need-find-class-requires
-find-class-requires c κs = let s = c .before .before .before in search-ready (s .pre) (small s)
-
-returns : tie.Need-returns
-returns c =
-    let s = c .before .before .before .before in
-    search-finds (s .pre) (c .find-class .ensures) (table-part (s .pre .cut) (s .pre .inside) (c .before .if1 .taken))
 
 -- The block of the cut above lies within the table.
 module _ (c : tie.Else1) where
@@ -63,44 +59,45 @@ part-above-start c = search needs
 part-above-end : tie.Need-part-above-end
 part-above-end c = room c
 
-slice-aggregate-lower : tie.Need-slice-aggregate-lower
-slice-aggregate-lower c = let l = whole (c .before .before .before) in sym (length-take-le (length l / 2) l (omega arith))
+-- Block j begins at the start of that block, or in its middle.
+module _ (c : tie.Joined2) where
+  abbrev else : tie.Else1
+  else = c .before .before
 
-find-class-requires-2 : tie.Need-find-class-requires-2
-find-class-requires-2 c κs = let s = start (c .before .before .before) in search-ready (s .pre) (small s)
+  begins : ((start else .args .j % 2 ≡ 0) × (c .if2 .from ≡ 0)) ⊎ ((start else .args .j % 2 ≡ 0 → ⊥) × (c .if2 .from ≡ length (whole else) / 2))
+  begins = ⊎-elim (λ w. inl (w .0 .taken, w .1)) (λ w. inr (w .0 .left, w .1)) (c .if2 .came)
+
+  ends : c .if2 .from + length (whole else) / 2 ≤ length (whole else)
+  ends = half-inside (start else .pre .cut) (start else .pre .inside) (else .if1 .left) begins
+
+add-to : tie.Need-add-to
+add-to c = let e = ends (c .before) in let h = half (else (c .before)) in let r = room (else (c .before)) in search needs
+
+mul-find-class : tie.Need-mul-find-class
+mul-find-class c = let e = ends (c .before) in let h = half (else (c .before)) in let r = room (else (c .before)) in search needs
+
+sub-find-class : tie.Need-sub-find-class
+sub-find-class c = search needs
+
+part-find-class-start : tie.Need-part-find-class-start
+part-find-class-start c = search needs
+
+part-find-class-end : tie.Need-part-find-class-end
+part-find-class-end c = ends (c .before)
+
+find-class-requires : tie.Need-find-class-requires
+find-class-requires c κs = let s = start (else (c .before .before)) in search-ready (s .pre) (small s)
 
 returns-2 : tie.Need-returns-2
 returns-2 c =
-    let e = c .before .before .before .before in
-    let s = start e in
-    search-finds (s .pre) (c .find-class2 .ensures) (lower-half (s .pre .cut) (s .pre .inside) (e .if1 .left) (c .before .before .if2 .taken))
-
-mul-upper : tie.Need-mul-upper
-mul-upper c = let e = c .before .before in let h = half e in let r = room e in search needs
-
-sub-upper : tie.Need-sub-upper
-sub-upper c = search needs
-
-part-upper-start : tie.Need-part-upper-start
-part-upper-start c = search needs
-
-part-upper-end : tie.Need-part-upper-end
-part-upper-end c = search needs
-
-find-class-requires-3 : tie.Need-find-class-requires-3
-find-class-requires-3 c κs = let s = start (c .before .before .before) in search-ready (s .pre) (small s)
-
-returns-3 : tie.Need-returns-3
-returns-3 c =
-    let e = c .before .before .before .before in
-    let s = start e in
-    search-finds (s .pre) (c .find-class3 .ensures) (upper-half (s .pre .cut) (s .pre .inside) (e .if1 .left) (c .before .before .if2 .left))
+    let j = c .before .before .before in
+    let s = start (else j) in
+    search-finds (s .pre) (c .find-class .ensures) (half-part (s .pre .cut) (s .pre .inside) (else j .if1 .left) (begins j))
 
 pub find-block-spec : {M : Type 1} → statement M
 find-block-spec =
     tie.close
     (tie.spec
-    find-class-requires
     returns
     mul-start
     mul-start-2
@@ -110,12 +107,10 @@ find-block-spec =
     sub-above
     part-above-start
     part-above-end
-    slice-aggregate-lower
-    find-class-requires-2
-    returns-2
-    mul-upper
-    sub-upper
-    part-upper-start
-    part-upper-end
-    find-class-requires-3
-    returns-3)
+    add-to
+    mul-find-class
+    sub-find-class
+    part-find-class-start
+    part-find-class-end
+    find-class-requires
+    returns-2)

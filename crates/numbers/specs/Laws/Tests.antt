@@ -14,7 +14,7 @@ use Rattle.numbers.specs.Lists.{numbersFrom, every}
 use Rattle.numbers.specs.Ranges.{mostVariables, widestAddress, isVariables, isLimit, within, isValue, eqZ}
 use Rattle.numbers.specs.Laws.Bools.{both, and-both}
 use Rattle.numbers.specs.Laws.Integers.{eqZ-true, eqZ-refl}
-use Rattle.numbers.specs.Laws.Lists.{every-at, every-from, length-range, getD-range}
+use Rattle.numbers.specs.Laws.Lists.{every-at, every-from, every-not, length-range, getD-range}
 use Rattle.numbers.specs.Conditions.{Between, Variables, Limit, TableValue}
 
 -- ---- tests of numbers
@@ -96,3 +96,18 @@ or-test false b p q = ((λ h n. q .0 h), (λ h. q .1 (h (λ x. absurd (false≢t
 -- Equal integers.
 pub same-test : (a b : ℤ) → (eqZ a b ≡ true) ↔ (a ≡ b)
 same-test a b = (eqZ-true a b, λ e. subst (λ c. eqZ a c ≡ true) e (eqZ-refl a))
+
+-- ---- tests that fail
+
+-- A test fails exactly where its condition does not hold.
+pub fails : {P : Type 0} (b : Bool) → (b ≡ true) ↔ P → (b ≡ false) ↔ (¬ P)
+fails true t = ((λ h. absurd (false≢true (sym h))), (λ n. absurd (n (t .0 refl))))
+fails false t = ((λ h p. absurd (false≢true (t .1 p))), (λ n. refl))
+
+-- Not every element passes exactly where one, at some place, does not meet the condition.
+pub some-fails : {A : Type 0} {P : A → Type 0} (test : A → Bool) (l : List A) (d : A) → ((a : A) → (test a ≡ true) ↔ P a)
+    → (every test l ≡ false) ↔ ((x : ℕ) × (x < length l) × (¬ P (getD l x d)))
+some-fails {P = P} test l d t = (
+  (λ h. let some = every-not test l d h in (some .0, some .1 .0, fails (test (getD l (some .0) d)) (t (getD l (some .0) d)) .0 (some .1 .1))),
+  (λ some. fails (every test l) (every-test {P = P} test l d t) .1 (λ all. some .2 (all (some .0) (some .1)))),
+)

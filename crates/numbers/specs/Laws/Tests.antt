@@ -104,10 +104,13 @@ pub fails : {P : Type 0} (b : Bool) → (b ≡ true) ↔ P → (b ≡ false) ↔
 fails true t = ((λ h. absurd (false≢true (sym h))), (λ n. absurd (n (t .0 refl))))
 fails false t = ((λ h p. absurd (false≢true (t .1 p))), (λ n. refl))
 
--- Not every element passes exactly where one, at some place, does not meet the condition.
-pub some-fails : {A : Type 0} {P : A → Type 0} (test : A → Bool) (l : List A) (d : A) → ((a : A) → (test a ≡ true) ↔ P a)
-    → (every test l ≡ false) ↔ ((x : ℕ) × (x < length l) × (¬ P (getD l x d)))
-some-fails {P = P} test l d t = (
-  (λ h. let some = every-not test l d h in (some .0, some .1 .0, fails (test (getD l (some .0) d)) (t (getD l (some .0) d)) .0 (some .1 .1))),
-  (λ some. fails (every test l) (every-test {P = P} test l d t) .1 (λ all. some .2 (all (some .0) (some .1)))),
-)
+-- The elements of a list of known length: all pass, or one, at some place, does not meet the condition.
+module _ {A : Type 0} {P : A → Type 0} (test : A → Bool) (d : A) (t : (a : A) → (test a ≡ true) ↔ P a) (l : List A) (size : ℕ) (long : length l ≡ size) where
+  pub all-pass : (every test l ≡ true) ↔ ((x : ℕ) → x < size → P (getD l x d))
+  all-pass = let all = every-test {P = P} test l d t in ((λ h x r. all .0 h x (rw long r)), (λ h. all .1 (λ x r. h x (rw long at r))))
+
+  pub some-fails : (every test l ≡ false) ↔ ((x : ℕ) × (x < size) × (¬ P (getD l x d)))
+  some-fails = (
+    (λ h. let some = every-not test l d h in let a = getD l (some .0) d in (some .0, rw long at (some .1 .0), fails (test a) (t a) .0 (some .1 .1))),
+    (λ some. fails (every test l) all-pass .1 (λ all. some .2 (all (some .0) (some .1)))),
+  )

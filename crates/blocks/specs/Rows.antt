@@ -1,5 +1,5 @@
--- How what is known of all cuts lies in rows: cut after cut, so that block j of cut h stands at place 2^h - 1 + j, and class c of cut h at place
--- 2^h - 1 + c.
+-- How what is known of all cuts lies in rows: cut after cut, so that block j of cut h stands at place 2^h - 1 + j, and
+-- class c of cut h at place 2^h - 1 + c.
 use Prim.Native.Nat.{ℕ, suc, _+_, _-_, _^_, _<_}
 use mathlib.Core.Path.{_≡_}
 use mathlib.Core.List.{List, map, flatMap}
@@ -48,7 +48,7 @@ useRow blockClasses = map (useCount blockClasses) (numbersFrom 0 (length blockCl
 unfoldable pub cutUseRow : ℕ → List ℤ → ℕ → List ℕ
 cutUseRow n table h = useRow (classesAt n table h)
 
--- All cuts, from cut 0 to cut n: the class of each block, the first block of each class, and each cut's number of classes;
+-- All cuts, from cut 0 to cut n: the class of each block, the first block of each class, each cut's number of classes;
 unfoldable pub allNumbers : ℕ → List ℤ → List ℕ
 allNumbers n table = flatMap (cutNumbers n table) (numbersFrom 0 (suc n))
 
@@ -58,7 +58,8 @@ allFirsts n table = flatMap (cutFirsts n table) (numbersFrom 0 (suc n))
 unfoldable pub allCounts : ℕ → List ℤ → List ℕ
 allCounts n table = map (classCount n table) (numbersFrom 0 (suc n))
 
--- how many classes were tried for each block, how many blocks up to and including it have its class, and each class's use count.
+-- how many classes were tried for each block, how many blocks up to and including it have its class, and the use count
+-- of each class.
 unfoldable pub allTries : ℕ → List ℤ → List ℕ
 allTries n table = flatMap (cutTries n table) (numbersFrom 0 (suc n))
 

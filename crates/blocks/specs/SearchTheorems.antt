@@ -1,5 +1,6 @@
--- The search for a block's class (W-203): the order in which the known classes are looked at, that the order changes no class, how many are
--- tried, and what stands for each block and each class in the rows of all cuts. It holds of every cut of every table.
+-- The search for a block's class (W-203): the order in which the known classes are looked at, that the order changes no
+-- class, how many are tried, and what stands for each block and each class in the rows of all cuts. It holds of every
+-- cut of every table.
 use Prim.Native.Nat.{ℕ, suc, _+_, _-_, _^_, _≤_, _<_}
 use mathlib.Core.Path.{_≡_}
 use mathlib.Core.Logic.{_↔_}
@@ -81,7 +82,8 @@ module _ (ds : List (List ℤ)) (j : ℕ) (below : j < length ds) where
   order = lookOrder (knownBefore ds j) (blockClass ds (j - 1))
 
   -- A block that is equal to none before it has a new class, which is the next number.
-  pub new-class-is-next : ((before : ℕ) → before < j → ¬ (getD ds before [] ≡ getD ds j [])) → blockClass ds j ≡ knownBefore ds j
+  pub new-class-is-next : ((before : ℕ) → before < j → ¬ (getD ds before [] ≡ getD ds j []))
+      → blockClass ds j ≡ knownBefore ds j
   new-class-is-next = proved.new-class-is-next ds j below
 
   -- All known ones are tried at a new class.
@@ -97,7 +99,7 @@ module _ (ds : List (List ℤ)) (j : ℕ) (below : j < length ds) where
   pub never-more-than-known : triedAt ds j ≤ knownBefore ds j
   never-more-than-known = proved.never-more-than-known ds j below
 
-  -- The search in this order among the known lists finds the block's class, and the number tried is how many it compares.
+  -- The search in this order among the known lists finds the block's class; the number tried is how many it compares.
   pub search-finds-the-class : foundIn (distinct (take j ds)) order (getD ds j []) ≡ blockClass ds j
   search-finds-the-class = proved.search-finds-the-class ds j below
 

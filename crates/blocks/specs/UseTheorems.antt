@@ -1,5 +1,6 @@
--- How many blocks use a class (W-207): the uses so far of a block, the use counts of a cut, which sum to 2^h, its commonest class, and what
--- stands for each block and each class in the rows of all cuts. It holds of every cut of every table.
+-- How many blocks use a class (W-207): the uses so far of a block, the use counts of a cut, which sum to 2^h, its
+-- commonest class, and what stands for each block and each class in the rows of all cuts. It holds of every cut of every
+-- table.
 use Prim.Native.Nat.{ℕ, _+_, _^_, _≤_, _<_}
 use mathlib.Core.Path.{_≡_}
 use mathlib.Core.List.{List}
@@ -100,7 +101,8 @@ module _ (n : ℕ) (table : List ℤ) (h : ℕ) (cut : h ≤ n) where
   row-of-use-counts = proved.row-of-use-counts n table h cut
 
   -- where past the last class stands 0;
-  pub none-past-the-last : (class : ℕ) → classCount n table h ≤ class → class < 2 ^ h → inRow (allUseRows n table) h class ≡ 0
+  pub none-past-the-last : (class : ℕ) → classCount n table h ≤ class → class < 2 ^ h
+      → inRow (allUseRows n table) h class ≡ 0
   none-past-the-last = proved.none-past-the-last n table h cut
 
   -- and what stands for cut h sums to 2^h.

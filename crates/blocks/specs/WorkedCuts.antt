@@ -1,5 +1,5 @@
--- Cuts worked out by hand, with the class of each block and the number tried for it (W-203): one list of data, under one theorem that
--- computes through the definitions.
+-- Cuts worked out by hand, with the class of each block and the number tried for it (W-203): one list of data, under one
+-- theorem that computes through the definitions.
 use Prim.Native.Nat.{ℕ}
 use mathlib.Core.Path.{_≡_, refl}
 use mathlib.Core.List.{List, [], _∷_, map}

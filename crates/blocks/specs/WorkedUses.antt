@@ -1,5 +1,5 @@
--- Cuts worked out by hand, with the uses so far of each block, the use count of each class and the commonest class (W-207): one list of
--- data, under one theorem that computes through the definitions.
+-- Cuts worked out by hand, with the uses so far of each block, the use count of each class and the commonest class
+-- (W-207): one list of data, under one theorem that computes through the definitions.
 use Prim.Native.Nat.{ℕ}
 use mathlib.Core.Path.{_≡_, refl}
 use mathlib.Core.List.{List, [], _∷_, map}
@@ -16,8 +16,8 @@ use Rattle.blocks.specs.declared.Common.{Common}
 tie : List ℕ
 tie = 3 ∷ 2 ∷ 3 ∷ 1 ∷ 2 ∷ 0 ∷ 2 ∷ 2 ∷ 2 ∷ 0 ∷ 0 ∷ 3 ∷ 0 ∷ 0 ∷ 0 ∷ 0 ∷ []
 
--- A cut of a table over 4 variables: block by block the uses so far, class by class the use count, and of the commonest class its number
--- and its use count.
+-- A cut of a table over 4 variables: block by block the uses so far, class by class the use count, and of the commonest
+-- class its number and its use count.
 record Worked : Type 0 where
   values : List ℕ
   cut : ℕ
@@ -36,7 +36,13 @@ cuts =
     }
     ∷ record { values = p1; cut = 0; soFar = 1 ∷ []; counts = 1 ∷ []; common = record { class = 0; uses = 1 } }
     ∷ record { values = p1; cut = 1; soFar = 1 ∷ 1 ∷ []; counts = 1 ∷ 1 ∷ []; common = record { class = 0; uses = 1 } }
-    ∷ record { values = p1; cut = 2; soFar = 1 ∷ 1 ∷ 2 ∷ 2 ∷ []; counts = 2 ∷ 2 ∷ []; common = record { class = 0; uses = 2 } }
+    ∷ record {
+      values = p1;
+      cut = 2;
+      soFar = 1 ∷ 1 ∷ 2 ∷ 2 ∷ [];
+      counts = 2 ∷ 2 ∷ [];
+      common = record { class = 0; uses = 2 };
+    }
     ∷ record {
       values = p1;
       cut = 3;
@@ -44,7 +50,13 @@ cuts =
       counts = 6 ∷ 2 ∷ [];
       common = record { class = 0; uses = 6 };
     }
-    ∷ record { values = p1; cut = 4; soFar = numbersFrom 1 16; counts = 16 ∷ []; common = record { class = 0; uses = 16 } }
+    ∷ record {
+      values = p1;
+      cut = 4;
+      soFar = numbersFrom 1 16;
+      counts = 16 ∷ [];
+      common = record { class = 0; uses = 16 };
+    }
     ∷ record { values = tie; cut = 1; soFar = 1 ∷ 1 ∷ []; counts = 1 ∷ 1 ∷ []; common = record { class = 0; uses = 1 } }
     ∷ record {
       values = tie;
@@ -53,7 +65,13 @@ cuts =
       counts = 1 ∷ 3 ∷ 3 ∷ 1 ∷ [];
       common = record { class = 1; uses = 3 };
     }
-    ∷ record { values = tie; cut = 4; soFar = numbersFrom 1 16; counts = 16 ∷ []; common = record { class = 0; uses = 16 } }
+    ∷ record {
+      values = tie;
+      cut = 4;
+      soFar = numbersFrom 1 16;
+      counts = 16 ∷ [];
+      common = record { class = 0; uses = 16 };
+    }
     ∷ []
 
 -- What the definitions give, cut by cut.

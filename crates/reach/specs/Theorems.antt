@@ -1,5 +1,5 @@
--- Reach (W-205): which calls it answers and what turns the others away; which cuts are listed, what the least limit is, and how both stand
--- to Plan, for every accepted table; and what comes back.
+-- Reach (W-205): which calls it answers and what turns the others away; for every accepted table which cuts are listed,
+-- what the least limit is, and how both stand to Plan; and what comes back.
 use Prim.Native.Nat.{ℕ, suc, _-_, _^_, _≤_, _<_}
 use mathlib.Core.Path.{_≡_}
 use mathlib.Core.Logic.{_↔_, _⊎_}
@@ -36,18 +36,20 @@ module _ (n : ℕ) (table : List ℤ) (limit : ℕ) where
   pub one-first : (¬ Variables n) ↔ (reach n table limit ≡ refused 1)
   one-first = refusals.one-first n table limit
 
-  pub two-next : (Variables n × (¬ (length table ≡ 2 ^ n))) ↔ (reach n table limit ≡ refused 2)
+  pub two-next : (Variables n × ¬ (length table ≡ 2 ^ n)) ↔ (reach n table limit ≡ refused 2)
   two-next = refusals.two-next n table limit
 
-  pub three-next : (Variables n × (length table ≡ 2 ^ n) × ((x : ℕ) × (x < 2 ^ n) × (¬ TableValue (getD table x (pos 0)))))
+  pub three-next :
+      (Variables n × (length table ≡ 2 ^ n) × ((x : ℕ) × (x < 2 ^ n) × ¬ TableValue (getD table x (pos 0))))
       ↔ (reach n table limit ≡ refused 3)
   three-next = refusals.three-next n table limit
 
-  pub eight-last : (Accepted n table × (¬ Limit limit)) ↔ (reach n table limit ≡ refused 8)
+  pub eight-last : (Accepted n table × ¬ Limit limit) ↔ (reach n table limit ≡ refused 8)
   eight-last = refusals.eight-last n table limit
 
   -- These are Plan's refusals, with the same numbers, but for 9, which is never given.
-  pub refused-as-by-plan : (k : ℕ) → ((plan n table limit ≡ refused k) × (¬ (k ≡ 9))) ↔ (reach n table limit ≡ refused k)
+  pub refused-as-by-plan : (k : ℕ) → ((plan n table limit ≡ refused k) × ¬ (k ≡ 9))
+      ↔ (reach n table limit ≡ refused k)
   refused-as-by-plan = refusals.refused-as-by-plan n table limit
 
   pub never-nine : ¬ (reach n table limit ≡ refused 9)
@@ -139,11 +141,13 @@ module _ (n : ℕ) (table : List ℤ) (limit : ℕ) (admitted : Accepted n table
 
   -- Where Plan answers 9, the list ends above the bottom cut, and from its last cut no cell fits.
   pub stopped-there : plan n table limit ≡ refused 9
-      → (last : ℕ) × (last < n) × (listed ≡ numbersFrom 0 (suc last)) × ((g : ℕ) → 1 ≤ g → limit < addressWidth n table last g)
+      → (last : ℕ) × (last < n) × (listed ≡ numbersFrom 0 (suc last))
+      × ((g : ℕ) → 1 ≤ g → limit < addressWidth n table last g)
   stopped-there = proved.stopped-there n table limit admitted limited
 
   -- The number of cuts and the least limit come back; the cuts stand in front of the array, and 0 behind them.
-  pub reach-verdict : reachAnswer n table limit ≡ accepted (record { count = length listed; limit = leastLimit n table })
+  pub reach-verdict : reachAnswer n table limit
+      ≡ accepted (record { count = length listed; limit = leastLimit n table })
   reach-verdict = proved.reach-verdict n table limit admitted limited
 
   pub reach-array : cutArray (reach n table limit) ≡ listed ++ replicate (13 - length listed) 0

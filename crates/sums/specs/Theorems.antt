@@ -1,5 +1,6 @@
--- Weighted sums (W-206): what the sum at X and its remainder are; of every accepted weight list the table of the sums and its diagram, the
--- table of the remainders, its cuts and the limit that fits it; then which calls Sum and Remainder answer, and what turns the others away.
+-- Weighted sums (W-206): what the sum at X and its remainder are; of every accepted weight list the table of the sums and
+-- its diagram, the table of the remainders, its cuts and the limit that fits it; then which calls Sum and Remainder
+-- answer, and what turns the others away.
 use Prim.Native.Nat.{ℕ, suc, _+_, _^_, _≤_, _<_}
 use mathlib.Core.Path.{_≡_}
 use mathlib.Core.Logic.{_↔_, _⊎_}
@@ -58,8 +59,10 @@ remainder-exactly = remainders.remainder-exactly
 
 -- ---- the table of the sums
 
--- The diagram of a plain sum has a node for each weight that is not 0, and the terminal; so it is too where a sum is out of range.
-pub node-count-by-weights : (weights : List ℤ) → nodeCount (length weights) (sumTable weights) ≡ suc (tally isNonzero weights)
+-- The diagram of a plain sum has a node for each weight that is not 0, and the terminal; so it is too where a sum is out
+-- of range.
+pub node-count-by-weights : (weights : List ℤ)
+    → nodeCount (length weights) (sumTable weights) ≡ suc (tally isNonzero weights)
 node-count-by-weights = sum-nodes
 
 module _ (n : ℕ) (weights : List ℤ) (list : Weighted n weights) where
@@ -78,7 +81,8 @@ module _ (n : ℕ) (weights : List ℤ) (list : Weighted n weights) where
 
     -- So Build answers that count, and the offset 0.
     pub build-of-sum : (places : ℕ) → nodeRoom n ≤ places
-        → buildAnswer n (sumTable weights) places ≡ accepted (record { nodes = suc (tally isNonzero weights); tableOffset = pos 0 })
+        → buildAnswer n (sumTable weights) places
+        ≡ accepted (record { nodes = suc (tally isNonzero weights); tableOffset = pos 0 })
     build-of-sum = plain.build-of-sum n weights list in-range
 
 -- ---- the table of the remainders
@@ -90,7 +94,8 @@ module _ (n : ℕ) (weights : List ℤ) (q : ℕ) (list : Weighted n weights) (s
 
   -- At every X it has the remainder by 2^q of the sum, from 0 to 2^q - 1.
   pub remainder-values : (x : ℕ) → x < 2 ^ n
-      → (getD table x (pos 0) ≡ pos (remainderBy (2 ^ q) (sumAt weights x))) × (remainderBy (2 ^ q) (sumAt weights x) < 2 ^ q)
+      → (getD table x (pos 0) ≡ pos (remainderBy (2 ^ q) (sumAt weights x)))
+      × (remainderBy (2 ^ q) (sumAt weights x) < 2 ^ q)
   remainder-values = reduced.remainder-values n weights q list some most
 
   -- It is a table that every operation accepts, whether or not every sum is a value.
@@ -109,7 +114,8 @@ module _ (n : ℕ) (weights : List ℤ) (q : ℕ) (list : Weighted n weights) (s
   limit-fits = reduced.limit-fits n weights q list some most
 
   -- So Plan answers a grouping for it, and for every greater limit that can be given; 9 it never answers there.
-  pub plan-with-limit : (limit : ℕ) → q + 1 ≤ limit → Limit limit → (sizes : List ℕ) × (plan n table limit ≡ accepted sizes)
+  pub plan-with-limit : (limit : ℕ) → q + 1 ≤ limit → Limit limit
+      → (sizes : List ℕ) × (plan n table limit ≡ accepted sizes)
   plan-with-limit = reduced.plan-with-limit n weights q list some most
 
   pub never-nine : (limit : ℕ) → q + 1 ≤ limit → ¬ (plan n table limit ≡ refused 9)
@@ -122,30 +128,35 @@ module _ (n : ℕ) (weights : List ℤ) (room : ℕ) where
   abbrev InRange : Type 0
   InRange = (x : ℕ) → x < 2 ^ n → TableValue (sumAt weights x)
 
-  -- 1, 2 and 3, each exactly where the checks before it pass and its own fails; 2 has two places, and the buffer's comes last.
+  -- 1, 2 and 3, each exactly where the checks before it pass and its own fails; 2 has two places, and the buffer's comes
+  -- last.
   pub sum-one : (¬ Variables n) ↔ (plainSum n weights room ≡ refused 1)
   sum-one = plain.sum-one n weights room
 
-  pub sum-two : ((Variables n × (¬ (length weights ≡ n))) ⊎ (Weighted n weights × InRange × (¬ (room ≡ 2 ^ n))))
+  pub sum-two :
+      ((Variables n × ¬ (length weights ≡ n)) ⊎ (Weighted n weights × InRange × ¬ (room ≡ 2 ^ n)))
       ↔ (plainSum n weights room ≡ refused 2)
   sum-two = plain.sum-two n weights room
 
-  pub sum-three : (Variables n × (length weights ≡ n) × ((j : ℕ) × (j < n) × (¬ TableValue (getD weights j (pos 0)))))
+  pub sum-three :
+      (Variables n × (length weights ≡ n) × ((j : ℕ) × (j < n) × ¬ TableValue (getD weights j (pos 0))))
       ↔ (plainSum n weights room ≡ refused 3)
   sum-three = plain.sum-three n weights room
 
-  -- 18 exactly where the list is accepted and some sum is out of the values' range, whatever the buffer's length; the least and the
-  -- greatest decide it.
-  pub sum-eighteen : (Weighted n weights × ((x : ℕ) × (x < 2 ^ n) × (¬ TableValue (sumAt weights x))))
+  -- 18 exactly where the list is accepted and some sum is out of the values' range, whatever the buffer's length; the
+  -- least and the greatest decide it.
+  pub sum-eighteen : (Weighted n weights × ((x : ℕ) × (x < 2 ^ n) × ¬ TableValue (sumAt weights x)))
       ↔ (plainSum n weights room ≡ refused 18)
   sum-eighteen = plain.sum-eighteen n weights room
 
-  pub eighteen-by-extremes : (Weighted n weights × (¬ (TableValue (leastSum weights) × TableValue (greatestSum weights))))
+  pub eighteen-by-extremes :
+      (Weighted n weights × ¬ (TableValue (leastSum weights) × TableValue (greatestSum weights)))
       ↔ (plainSum n weights room ≡ refused 18)
   eighteen-by-extremes = plain.eighteen-by-extremes n weights room
 
   -- The others are answered: an accepted list, every sum a value, and room for 2^n numbers.
-  pub sum-accepts : (Weighted n weights × InRange × (room ≡ 2 ^ n)) ↔ ((table : List ℤ) × (plainSum n weights room ≡ accepted table))
+  pub sum-accepts : (Weighted n weights × InRange × (room ≡ 2 ^ n))
+      ↔ ((table : List ℤ) × (plainSum n weights room ≡ accepted table))
   sum-accepts = plain.sum-accepts n weights room
 
   -- What is answered is the table of the sums.
@@ -169,33 +180,39 @@ module _ (n : ℕ) (weights : List ℤ) (q room : ℕ) where
   pub remainder-one : (¬ Variables n) ↔ (reducedSum n weights q room ≡ refused 1)
   remainder-one = reduced.remainder-one n weights q room
 
-  pub remainder-two : ((Variables n × (¬ (length weights ≡ n))) ⊎ (Weighted n weights × RemainderBits q × (¬ (room ≡ 2 ^ n))))
+  pub remainder-two :
+      ((Variables n × ¬ (length weights ≡ n)) ⊎ (Weighted n weights × RemainderBits q × ¬ (room ≡ 2 ^ n)))
       ↔ (reducedSum n weights q room ≡ refused 2)
   remainder-two = reduced.remainder-two n weights q room
 
-  pub remainder-three : (Variables n × (length weights ≡ n) × ((j : ℕ) × (j < n) × (¬ TableValue (getD weights j (pos 0)))))
+  pub remainder-three :
+      (Variables n × (length weights ≡ n) × ((j : ℕ) × (j < n) × ¬ TableValue (getD weights j (pos 0))))
       ↔ (reducedSum n weights q room ≡ refused 3)
   remainder-three = reduced.remainder-three n weights q room
 
   -- 19 exactly where the list is accepted and q is outside 1..11, whatever the buffer's length.
-  pub remainder-nineteen : (Weighted n weights × (¬ RemainderBits q)) ↔ (reducedSum n weights q room ≡ refused 19)
+  pub remainder-nineteen : (Weighted n weights × ¬ RemainderBits q) ↔ (reducedSum n weights q room ≡ refused 19)
   remainder-nineteen = reduced.remainder-nineteen n weights q room
 
-  -- The others are answered: an accepted list, q from 1 to 11, and room for 2^n numbers. Sums out of the values' range turn none away.
+  -- The others are answered: an accepted list, q from 1 to 11, and room for 2^n numbers. Sums out of the values' range
+  -- turn none away.
   pub remainder-accepts : (Weighted n weights × RemainderBits q × (room ≡ 2 ^ n))
       ↔ ((table : List ℤ) × (reducedSum n weights q room ≡ accepted table))
   remainder-accepts = reduced.remainder-accepts n weights q room
 
   -- What is answered is the table of the remainders.
-  pub remainder-answers : (table : List ℤ) → reducedSum n weights q room ≡ accepted table → table ≡ remainderTable q weights
+  pub remainder-answers : (table : List ℤ) → reducedSum n weights q room ≡ accepted table
+      → table ≡ remainderTable q weights
   remainder-answers = reduced.remainder-answers n weights q room
 
 -- The buffer then holds just that table.
-pub remainder-fills : (n : ℕ) (weights : List ℤ) (q : ℕ) (buffer table : List ℤ) → reducedSum n weights q (length buffer) ≡ accepted table
+pub remainder-fills : (n : ℕ) (weights : List ℤ) (q : ℕ) (buffer table : List ℤ)
+    → reducedSum n weights q (length buffer) ≡ accepted table
     → bufferAfter (reducedSum n weights q (length buffer)) (λ t. t) buffer ≡ table
 remainder-fills = reduced.remainder-fills
 
 -- A refused call leaves the buffer as it was.
 pub refused-remainder-leaves : (n : ℕ) (weights : List ℤ) (q : ℕ) (buffer : List ℤ) (k : ℕ)
-    → reducedSum n weights q (length buffer) ≡ refused k → bufferAfter (reducedSum n weights q (length buffer)) (λ t. t) buffer ≡ buffer
+    → reducedSum n weights q (length buffer) ≡ refused k
+    → bufferAfter (reducedSum n weights q (length buffer)) (λ t. t) buffer ≡ buffer
 refused-remainder-leaves n weights q buffer k e = buffer-kept (reducedSum n weights q (length buffer)) k buffer e

@@ -10,8 +10,6 @@ use lib.Pow.{pow-pos}
 use lib.IntN.{ℤ, pos}
 use Rattle.numbers.specs.Answers.{accepted, refused, bufferAfter}
 use Rattle.numbers.specs.Conditions.{Variables, Limit}
-use Rattle.numbers.specs.Lists.{every}
-use Rattle.numbers.specs.Ranges.{isValue}
 use Rattle.numbers.specs.Laws.Tests.{variables-test, limit-test}
 use Rattle.blocks.specs.Classes.{classCount}
 use Rattle.diagram.specs.Accepted.{Accepted}

@@ -161,6 +161,7 @@ module _ (ds : List (List ℤ)) (j : ℕ) (below : j < length ds) where
 -- ---- the rows of a cut
 
 module _ (n : ℕ) (table : List ℤ) (h : ℕ) (cut : h ≤ n) where
+  -- The differences of its blocks, left to right.
   abbrev lists : List (List ℤ)
   lists = map differences (blocks n table (n - h))
 
@@ -176,11 +177,7 @@ module _ (n : ℕ) (table : List ℤ) (h : ℕ) (cut : h ≤ n) where
   pub cut-begins-with-none : getD (cutTries n table h) 0 0 ≡ 0
   cut-begins-with-none = row-of-tries 0 (pow-pos h) ∙ first-block lists
 
--- ---- the rows of all cuts
-
-module _ (n : ℕ) (table : List ℤ) (h : ℕ) (cut : h ≤ n) where
-  abbrev alike : List (List ℤ)
-  alike = map differences (blocks n table (n - h))
+  -- ---- the rows of all cuts
 
   abbrev class : ℕ → ℕ
   class j = inRow (allNumbers n table) h j
@@ -189,15 +186,15 @@ module _ (n : ℕ) (table : List ℤ) (h : ℕ) (cut : h ≤ n) where
   tried j = inRow (allTries n table) h j
 
   -- What stands there is what the blocks of the cut have.
-  pub row-of-all-tries : (j : ℕ) → j < 2 ^ h → tried j ≡ triedAt alike j
+  pub row-of-all-tries : (j : ℕ) → j < 2 ^ h → tried j ≡ triedAt lists j
   unfolding allTries
-  row-of-all-tries j l = row-at (cutTries n table) n (λ k m. length-cut-tries n k m table) h j cut l ∙ row-of-tries n table h cut j l
+  row-of-all-tries j l = row-at (cutTries n table) n (λ k m. length-cut-tries n k m table) h j cut l ∙ row-of-tries j l
 
-  class-stands : (j : ℕ) → j < 2 ^ h → class j ≡ blockClass alike j
+  class-stands : (j : ℕ) → j < 2 ^ h → class j ≡ blockClass lists j
   unfolding allNumbers
-  class-stands j l = row-at (cutNumbers n table) n (λ k m. length-cut-numbers n k m table) h j cut l ∙ row-of-classes n table h cut j l
+  class-stands j l = row-at (cutNumbers n table) n (λ k m. length-cut-numbers n k m table) h j cut l ∙ row-of-classes j l
 
-  inside : (j : ℕ) → j < 2 ^ h → j < length alike
+  inside : (j : ℕ) → j < 2 ^ h → j < length lists
   inside j l = rw (lists-length n h cut table) l
 
   -- Equal numbers stand exactly for equal differences.
@@ -212,30 +209,30 @@ module _ (n : ℕ) (table : List ℤ) (h : ℕ) (cut : h ≤ n) where
 
   -- The number tried, told by the classes.
   pub first-tries-none : tried 0 ≡ 0
-  first-tries-none = row-of-all-tries 0 (pow-pos h) ∙ first-block alike
+  first-tries-none = row-of-all-tries 0 (pow-pos h) ∙ first-block lists
 
-  pub new-tries-all : (j : ℕ) → j < 2 ^ h → ((before : ℕ) → before < j → ¬ (class before ≡ class j)) → (class j ≡ knownBefore alike j) × (tried j ≡ knownBefore alike j)
+  pub new-tries-all : (j : ℕ) → j < 2 ^ h → ((before : ℕ) → before < j → ¬ (class before ≡ class j)) → (class j ≡ knownBefore lists j) × (tried j ≡ knownBefore lists j)
   unfolding blockClass
   new-tries-all j l new =
-      let next = new-class-is-next alike j (inside j l)
-      (λ before b e. new before b (class-stands before (omega arith) ∙ ap (numberIn (distinct alike)) e ∙ sym (class-stands j l))) in
-      (class-stands j l ∙ next, row-of-all-tries j l ∙ new-class-takes-all alike j (inside j l) next)
+      let next = new-class-is-next lists j (inside j l)
+      (λ before b e. new before b (class-stands before (omega arith) ∙ ap (numberIn (distinct lists)) e ∙ sym (class-stands j l))) in
+      (class-stands j l ∙ next, row-of-all-tries j l ∙ new-class-takes-all lists j (inside j l) next)
 
   module _ (j : ℕ) (next : suc j < 2 ^ h) where
-    here : class j ≡ blockClass alike j
+    here : class j ≡ blockClass lists j
     here = class-stands j (omega arith)
 
-    there : class (suc j) ≡ blockClass alike (suc j)
+    there : class (suc j) ≡ blockClass lists (suc j)
     there = class-stands (suc j) next
 
     pub same-tries-one : class (suc j) ≡ class j → tried (suc j) ≡ 1
-    same-tries-one e = row-of-all-tries (suc j) next ∙ same-as-before alike j (inside (suc j) next) (sym there ∙ e ∙ here)
+    same-tries-one e = row-of-all-tries (suc j) next ∙ same-as-before lists j (inside (suc j) next) (sym there ∙ e ∙ here)
 
     pub lower-tries : class (suc j) < class j → tried (suc j) ≡ class (suc j) + 2
-    lower-tries l = row-of-all-tries (suc j) next ∙ lower-class alike j (inside (suc j) next) (let a = here in let b = there in omega arith) ∙ ap (λ c. c + 2) (sym there)
+    lower-tries l = row-of-all-tries (suc j) next ∙ lower-class lists j (inside (suc j) next) (let a = here in let b = there in omega arith) ∙ ap (λ c. c + 2) (sym there)
 
     pub higher-tries : (before : ℕ) → before < j → class before ≡ class (suc j) → class j < class (suc j) → tried (suc j) ≡ class (suc j) + 1
     higher-tries before earlier e l =
         row-of-all-tries (suc j) next
-        ∙ higher-class alike j (inside (suc j) next) before earlier (sym (class-stands before (omega arith)) ∙ e ∙ there) (let a = here in let b = there in omega arith)
+        ∙ higher-class lists j (inside (suc j) next) before earlier (sym (class-stands before (omega arith)) ∙ e ∙ there) (let a = here in let b = there in omega arith)
         ∙ ap (λ c. c + 1) (sym there)

@@ -12,7 +12,7 @@ pub mod Latest
 pub mod Places
 pub mod Searching
 pub mod TryRows
-pub mod SearchTheorems
+pub mod Tries
 pub mod UseRows
 pub mod Counting
-pub mod UseTheorems
+pub mod Uses

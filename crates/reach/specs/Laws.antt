@@ -1,5 +1,6 @@
 -- What is proved of the definitions of this crate; a file stands behind those whose laws it cites.
 pub mod Answers
+pub mod Refusals
 pub mod Checks
 pub mod Counts
 pub mod NarrowCells
@@ -8,4 +9,4 @@ pub mod Rails
 pub mod Reached
 pub mod Beside
 pub mod Reaching
-pub mod Theorems
+pub mod Found

@@ -1,7 +1,7 @@
 -- Reach: the cuts that fitting cells arrive at from cut 0, and the least address limit that fits.
 use Prim.Native.Nat.{ℕ, suc}
 use mathlib.Core.Path.{_≡_}
-use mathlib.Core.Bool.{Bool}
+use mathlib.Core.Bool.{Bool, true}
 use mathlib.Core.List.{List}
 use lib.ListN.{length}
 use lib.Dec.{leb}
@@ -10,7 +10,7 @@ use Rattle.numbers.specs.Answers.{Answer, accepted, refused, unless, mapAnswer}
 use Rattle.numbers.specs.Lists.{numbersFrom, keep, tally, least, padded}
 use Rattle.numbers.specs.Ranges.{isLimit, mostVariables}
 use Rattle.diagram.specs.Build.{ofTable}
-use Rattle.cascade.specs.Groupings.{groupings, fits}
+use Rattle.cascade.specs.Groupings.{groupings, fits, isGrouping}
 use Rattle.cascade.specs.Plan.{entries}
 use Rattle.reach.specs.declared.Reached.{Reached}
 use Rattle.reach.specs.declared.ReachVerdict.{ReachVerdict}
@@ -19,6 +19,10 @@ use Rattle.reach.specs.declared.ReachVerdict.the-variants.{Cuts, Refused
 -- Cut h is arrived at: of the lists of sizes that take the top h variables, at least one has only cells that fit the limit.
 unfoldable pub isReached : ℕ → List ℤ → ℕ → ℕ → Bool
 isReached n table limit h = leb 1 (tally (fits n table limit) (groupings h))
+
+-- Some list of sizes takes the top h variables and has only cells that fit the limit; at cut 0 the list of none does.
+abbrev pub Arriving : ℕ → List ℤ → ℕ → ℕ → Type 0
+Arriving n table limit h = (sizes : List ℕ) × (isGrouping h sizes ≡ true) × (fits n table limit sizes ≡ true)
 
 -- The cuts that are arrived at, in rising order.
 unfoldable pub reachedCuts : ℕ → List ℤ → ℕ → List ℕ

@@ -9,4 +9,5 @@ pub mod Diagrams
 pub mod Extremes
 pub mod Summable
 pub mod Filling
-pub mod Theorems
+pub mod PlainSum
+pub mod ReducedSum

@@ -1,13 +1,14 @@
 -- Weighted sums: the table of the sums of weights, one weight for each bit of X, and the table of their remainders by 2^q.
-use Prim.Native.Nat.{ℕ, suc, _-_, _%_, _^_}
+use Prim.Native.Nat.{ℕ, suc, _-_, _%_, _^_, _≤_, _<_}
 use mathlib.Core.Path.{_≡_}
-use mathlib.Core.Bool.{Bool, true, _&&_, not}
+use mathlib.Core.Bool.{Bool, _&&_, not}
 use mathlib.Core.List.{List, map}
 use lib.ListN.{length, getD}
 use lib.Dec.{leb, eqb}
 use lib.IntN.{ℤ, pos, negsuc}
 use lib.Signed.{ltZ}
 use Rattle.numbers.specs.Answers.{Answer, accepted, refused, unless, mapAnswer, bufferAfter}
+use Rattle.numbers.specs.Conditions.{Variables, TableValue}
 use Rattle.numbers.specs.Lists.{numbersFrom, every, keep, exactSum}
 use Rattle.numbers.specs.Ranges.{isVariables, isValue, eqZ}
 use Rattle.diagram.specs.Walk.{bitSet}
@@ -46,6 +47,10 @@ remainderTable q weights = map (λ z. pos (remainderBy (2 ^ q) z)) (sumTable wei
 unfoldable pub isRemainderBits : ℕ → Bool
 isRemainderBits q = leb 1 q && leb q 11
 
+-- The same as a condition.
+abbrev pub RemainderBits : ℕ → Type 0
+RemainderBits q = (1 ≤ q) × (q ≤ 11)
+
 -- The checks on a weight list that both operations share, in their order: 1, 2, 3.
 unfoldable pub ofWeights : {A : Type 0} → ℕ → List ℤ → Answer A → Answer A
 ofWeights n weights rest =
@@ -56,9 +61,9 @@ ofWeights n weights rest =
 
 -- An accepted weight list, one that passes them: n from 1 to 12, n weights, each in the values' range.
 pub record Weighted (n : ℕ) (weights : List ℤ) : Type 0 where
-  pub variables : isVariables n ≡ true
+  pub variables : Variables n
   pub size : length weights ≡ n
-  pub values : every isValue weights ≡ true
+  pub values : (j : ℕ) → j < n → TableValue (getD weights j (pos 0))
 
 -- A table for a buffer of so many numbers, the last check: it must have 2^n.
 unfoldable pub intoRoom : ℕ → ℕ → List ℤ → Answer (List ℤ)

@@ -14,7 +14,7 @@ use Rattle.numbers.specs.Lists.{numbersFrom, every}
 use Rattle.numbers.specs.Ranges.{mostVariables, widestAddress, isVariables, isLimit, within, isValue, eqZ}
 use Rattle.numbers.specs.Laws.Bools.{both, and-both}
 use Rattle.numbers.specs.Laws.Integers.{eqZ-true, eqZ-refl}
-use Rattle.numbers.specs.Laws.Lists.{every-at, every-from, length-range, getD-range}
+use Rattle.numbers.specs.Laws.Lists.{every-at, every-from, every-not, length-range, getD-range}
 use Rattle.numbers.specs.Conditions.{Between, Variables, Limit, TableValue}
 
 -- ---- tests of numbers
@@ -96,3 +96,21 @@ or-test false b p q = ((λ h n. q .0 h), (λ h. q .1 (h (λ x. absurd (false≢t
 -- Equal integers.
 pub same-test : (a b : ℤ) → (eqZ a b ≡ true) ↔ (a ≡ b)
 same-test a b = (eqZ-true a b, λ e. subst (λ c. eqZ a c ≡ true) e (eqZ-refl a))
+
+-- ---- tests that fail
+
+-- A test fails exactly where its condition does not hold.
+pub fails : {P : Type 0} (b : Bool) → (b ≡ true) ↔ P → (b ≡ false) ↔ (¬ P)
+fails true t = ((λ h. absurd (false≢true (sym h))), (λ n. absurd (n (t .0 refl))))
+fails false t = ((λ h p. absurd (false≢true (t .1 p))), (λ n. refl))
+
+-- The elements of a list of known length: all pass, or one, at some place, does not meet the condition.
+module _ {A : Type 0} {P : A → Type 0} (test : A → Bool) (d : A) (t : (a : A) → (test a ≡ true) ↔ P a) (l : List A) (size : ℕ) (long : length l ≡ size) where
+  pub all-pass : (every test l ≡ true) ↔ ((x : ℕ) → x < size → P (getD l x d))
+  all-pass = let all = every-test {P = P} test l d t in ((λ h x r. all .0 h x (rw long r)), (λ h. all .1 (λ x r. h x (rw long at r))))
+
+  pub some-fails : (every test l ≡ false) ↔ ((x : ℕ) × (x < size) × (¬ P (getD l x d)))
+  some-fails = (
+    (λ h. let some = every-not test l d h in let a = getD l (some .0) d in (some .0, rw long at (some .1 .0), fails (test a) (t a) .0 (some .1 .1))),
+    (λ some. fails (every test l) all-pass .1 (λ all. some .2 (all (some .0) (some .1)))),
+  )

@@ -19,16 +19,12 @@ use Rattle.blocks.specs.Classes.{railAt}
 use Rattle.cascade.specs.Groupings.{groupings, addressWidth, fitsFrom, fits, isGrouping}
 use Rattle.cascade.specs.Laws.Cells.{address-width-le}
 use Rattle.cascade.specs.Laws.Groupings.{grouping-cons, grouping-nil, grouping-among, among-grouping}
-use Rattle.reach.specs.Reach.{isReached, reachedCuts, leastLimit}
+use Rattle.reach.specs.Reach.{isReached, Arriving, reachedCuts, leastLimit}
 use Rattle.reach.specs.Inner.Narrowest.{furthest, widestAbove}
 use Rattle.reach.specs.Laws.Narrowest.{fits-above, furthest-cut, too-wide-at, none-wider, widest-least}
 use Rattle.reach.specs.Laws.Rails.{rail-grows}
 
 -- ---- some list of fitting cells
-
--- A list of sizes that takes the top h variables and whose cells all fit the limit.
-abbrev pub Arriving : ℕ → List ℤ → ℕ → ℕ → Type 0
-Arriving n table limit h = (sizes : List ℕ) × (isGrouping h sizes ≡ true) × (fits n table limit sizes ≡ true)
 
 some-among : (l : List (List ℕ)) → 1 ≤ length l → (sizes : List ℕ) × List·Memᴰ sizes l
 some-among [] some = absurd (omega arith)

@@ -8,11 +8,10 @@ use lib.ListN.{length}
 use lib.IntN.{pos}
 use borrow.Author.Needs.{needs}
 use borrow.Author.Tests.{not-true, not-false}
-use Rattle.diagram.specs.Laws.Checks.{variables-range}
 use Rattle.sums.specs.Sums.{remainderBy, remainderTable, isRemainderBits, reducedSum}
 use Rattle.sums.specs.Laws.Answers.{unadmitted, unroomed, answered, fills-refused, fills-whole}
-use Rattle.sums.specs.Laws.Classes.{bits-range, remainders-length}
-use Rattle.sums.specs.Laws.Summable.{weighted-summable}
+use Rattle.sums.specs.Laws.Classes.{bits-test, remainders-length}
+use Rattle.sums.specs.Laws.Summable.{few-variables, weighted-summable}
 use Rattle.sums.proofs.remainder_weighted.Statement.{statement}
 use Rattle.sums.proofs.remainder_weighted.Tie as tie
 
@@ -32,7 +31,7 @@ bits : (c : tie.Else1) → isRemainderBits (c .before .before .args .q) ≡ true
 bits c = sym (c .before .is-remainder-bits .ensures) ∙ not-false _ (c .if1 .left)
 
 power-requires : tie.Need-power-requires
-power-requires c κs = let v = variables-range (c .before .before .args .n) (c .before .before .pre .variables) .1 in omega arith
+power-requires c κs = let s = c .before .before in let few = few-variables (s .args .n) (s .args .weights .now) (s .pre) in omega arith
 
 returns-2 : tie.Need-returns-2
 unfolding reducedSum
@@ -53,7 +52,7 @@ write-sums-requires c κs =
     (weighted-summable (s .args .n) (s .args .weights .now) (s .pre), size (c .before) ∙ ap (λ k. 2 ^ k) (sym (s .pre .size)))
 
 reduce-requires : tie.Need-reduce-requires
-reduce-requires c κs = let e = c .before .before .before .before .before .before in bits-range (e .before .before .args .q) (bits e) .1
+reduce-requires c κs = let e = c .before .before .before .before .before .before in bits-test (e .before .before .args .q) .0 (bits e) .1
 
 same-length : tie.Need-same-length
 same-length c = search needs

@@ -8,11 +8,10 @@ use borrow.Author.Needs.{needs}
 use borrow.Author.Tests.{not-true, not-false}
 use Rattle.numbers.specs.Lists.{every}
 use Rattle.numbers.specs.Ranges.{isValue}
-use Rattle.diagram.specs.Laws.Checks.{variables-range}
 use Rattle.sums.specs.Sums.{sumTable, plainSum}
 use Rattle.sums.specs.Laws.Answers.{unadmitted, unroomed, answered, fills-refused, fills-whole}
 use Rattle.sums.specs.Laws.Split.{table-length}
-use Rattle.sums.specs.Laws.Summable.{weighted-summable}
+use Rattle.sums.specs.Laws.Summable.{few-variables, weighted-summable}
 use Rattle.sums.proofs.sum_weighted.Statement.{statement}
 use Rattle.sums.proofs.sum_weighted.Tie as tie
 
@@ -34,7 +33,7 @@ values : (c : tie.Else1) → every isValue (sumTable (c .before .before .args .w
 values c = sym (c .before .sums-fit .ensures) ∙ not-false _ (c .if1 .left)
 
 power-requires : tie.Need-power-requires
-power-requires c κs = let v = variables-range (c .before .before .args .n) (c .before .before .pre .variables) .1 in omega arith
+power-requires c κs = let s = c .before .before in let few = few-variables (s .args .n) (s .args .weights .now) (s .pre) in omega arith
 
 returns-2 : tie.Need-returns-2
 unfolding plainSum

@@ -1,6 +1,7 @@
 -- The remainders' table: it is accepted, its blocks are told apart by remainders, and so its cuts have few classes and narrow cells fit.
 use Prim.Native.Nat.{ℕ, _+_, _-_, _^_, _≤_, _<_}
 use mathlib.Core.Path.{_≡_, sym, _∙_, ap}
+use mathlib.Core.Logic.{_↔_}
 use mathlib.Core.Bool.{true}
 use mathlib.Core.List.{List, map}
 use native.Mathlib.Omega.{arith}
@@ -8,13 +9,12 @@ use lib.ListN.{length, getD, take, drop, length-map}
 use lib.Dec.{leb}
 use lib.Pow.{pow-pos, pow-mono}
 use lib.IntN.{ℤ, pos, _+ℤ_}
-use borrow.Author.Tests.{leb-true}
 use Rattle.numbers.specs.Lists.{every}
 use Rattle.numbers.specs.Ranges.{isValue}
-use Rattle.numbers.specs.Laws.Bools.{both}
 use Rattle.numbers.specs.Laws.Bounds.{natural-value}
 use Rattle.numbers.specs.Laws.Lists.{every-from, getD-map, map-same}
 use Rattle.numbers.specs.Laws.Runs.{all-met}
+use Rattle.numbers.specs.Laws.Tests.{le-test, and-test}
 use Rattle.numbers.specs.Laws.Widths.{rail-width-least}
 use Rattle.blocks.specs.Blocks.{block}
 use Rattle.blocks.specs.Classes.{classCount, classOf, railAt}
@@ -22,14 +22,14 @@ use Rattle.blocks.specs.Laws.Classes.{class-used}
 use Rattle.cascade.specs.Groupings.{addressWidth}
 use Rattle.reach.specs.Reach.{isReached}
 use Rattle.reach.specs.Laws.Reached.{reached-narrow}
-use Rattle.sums.specs.Sums.{sumAt, sumTable, remainderBy, remainderTable, isRemainderBits}
+use Rattle.sums.specs.Sums.{sumAt, sumTable, remainderBy, remainderTable, isRemainderBits, RemainderBits}
 use Rattle.sums.specs.Laws.Blocks.{block-of-remainders}
 use Rattle.sums.specs.Laws.Remainders.{remainder-below, remainder-of-sum}
 use Rattle.sums.specs.Laws.Split.{table-length, table-at}
 
-pub bits-range : (q : ℕ) → isRemainderBits q ≡ true → (1 ≤ q) × (q ≤ 11)
+pub bits-test : (q : ℕ) → (isRemainderBits q ≡ true) ↔ RemainderBits q
 unfolding isRemainderBits
-bits-range q h = let b = both (leb 1 q) (leb q 11) h in (leb-true 1 q (b .0), leb-true q 11 (b .1))
+bits-test q = and-test (leb 1 q) (leb q 11) (le-test 1 q) (le-test q 11)
 
 module _ (q : ℕ) (weights : List ℤ) where
   pub remainders-length : length (remainderTable q weights) ≡ 2 ^ length weights

@@ -10,6 +10,7 @@ use lib.Pow.{pow-pos}
 use lib.IntN.{ℤ, pos, negsuc, negℤ, _+ℤ_, +ℤ-idl, +ℤ-idr, +ℤ-comm}
 use lib.Signed.{mag, ltZ, leZ}
 use borrow.Author.Tests.{ltb-true}
+use Rattle.numbers.specs.Conditions.{Domain, LeastOver, GreatestOver}
 use Rattle.numbers.specs.Extremes.{leastOf, greatestOf}
 use Rattle.numbers.specs.Lists.{numbersFrom, every, keep, exactSum}
 use Rattle.numbers.specs.Ranges.{within, isValue}
@@ -23,6 +24,7 @@ use Rattle.numbers.specs.Laws.Rows.{keep-one, keep-other}
 use Rattle.numbers.specs.Laws.Selections.{keep-passed, keep-failed, keep-append, keep-length}
 use Rattle.numbers.specs.Laws.Sums.{sum-snoc, sum-small}
 use Rattle.numbers.specs.Laws.Tallies.{kept-all}
+use Rattle.numbers.specs.Laws.Tests.{at-most-test}
 use Rattle.sums.specs.Sums.{sumAt, sumTable, leastSum, greatestSum}
 use Rattle.sums.specs.Laws.Split.{sum-cons, sum-even, sum-odd, one-or-none, table-length, table-at}
 
@@ -89,11 +91,30 @@ pub greatest-of-sums : (weights : List ℤ) → greatestOf (sumTable weights) �
 unfolding greatestSum
 greatest-of-sums = extreme-sum greatests (λ w. ltZ (pos 0) w) (λ w. ltZ-le (pos 0) w) (λ w. ltZ-turn (pos 0) w)
 
--- So these two decide whether every sum is a value.
 module _ (weights : List ℤ) where
   some-sum : 0 < length (sumTable weights)
   some-sum = rw table-length (pow-pos (length weights))
 
+  -- Over all X.
+  pub least-over-sums : LeastOver (Domain (length weights)) (sumAt weights) (leastSum weights)
+  least-over-sums =
+      let low = leasts .among (sumTable weights) some-sum in
+      let inside : low .0 < 2 ^ length weights = rw table-length at (low .1 .0) in
+      record {
+        under = λ x l. at-most-test _ _ .0 (ap₂ leZ (sym (least-of-sums weights)) (sym (table-at weights x l)) ∙ leasts .before (sumTable weights) x (rw table-length l));
+        met = (low .0, (inside, sym (least-of-sums weights) ∙ low .1 .1 ∙ table-at weights (low .0) inside));
+      }
+
+  pub greatest-over-sums : GreatestOver (Domain (length weights)) (sumAt weights) (greatestSum weights)
+  greatest-over-sums =
+      let high = greatests .among (sumTable weights) some-sum in
+      let inside : high .0 < 2 ^ length weights = rw table-length at (high .1 .0) in
+      record {
+        above = λ x l. at-most-test _ _ .0 (ap₂ leZ (sym (table-at weights x l)) (sym (greatest-of-sums weights)) ∙ greatests .before (sumTable weights) x (rw table-length l));
+        met = (high .0, (inside, sym (greatest-of-sums weights) ∙ high .1 .1 ∙ table-at weights (high .0) inside));
+      }
+
+  -- So these two decide whether every sum is a value.
   value-between : (z : ℤ) → leZ (leastSum weights) z ≡ true → leZ z (greatestSum weights) ≡ true → (isValue (leastSum weights) && isValue (greatestSum weights)) ≡ true → isValue z ≡ true
   unfolding isValue within
   value-between z p q h =

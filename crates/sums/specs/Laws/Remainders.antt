@@ -1,6 +1,7 @@
 -- Remainders of integers: which they are, of sums, and by the machine's remainder, which has the dividend's sign.
 use Prim.Native.Nat.{ℕ, zero, suc, _+_, _-_, _*_, _/_, _%_, _≤_, _<_}
-use mathlib.Core.Path.{_≡_, refl, sym, _∙_, ap}
+use mathlib.Core.Path.{_≡_, refl, sym, _∙_, ap, subst}
+use mathlib.Core.Logic.{_↔_}
 use mathlib.Core.Bool.{true, false, true≢false, false≢true}
 use native.Mathlib.Nat.{mod-lt, mod-eq-of-lt, mod-self, add-mod-right, mod-eq-sub-mod, mod-add-div', suc-mod, div-le-self}
 use native.Mathlib.Omega.{arith}
@@ -107,3 +108,10 @@ module _ (m : ℕ) (some : 0 < m) where
       yes-or-no (ltb (suc (a % m)) m)
       (λ t. let b = ltb-true (suc (a % m)) m t in rw (below-turn a b, le-ltb m (suc (a % m)) (omega arith)) refl)
       (λ t. let f = ltb-false (suc (a % m)) m t in absurd (false≢true (rw (at-turn a (omega arith)) at e)))
+
+-- The remainder is the one number from 0 to m - 1 that differs from the integer by a multiple of m.
+pub remainder-exactly : (m : ℕ) (z : ℤ) (r : ℕ) → 0 < m → ((r < m) × ((k : ℤ) × (z ≡ pos r +ℤ k *ℤ pos m))) ↔ (remainderBy m z ≡ r)
+remainder-exactly m z r some = (
+  (λ p. ap (remainderBy m) (p .1 .1) ∙ remainder-only m some r (p .1 .0) (p .0)),
+  (λ e. let p = remainder-parts m some z in (subst (λ k. k < m) e (remainder-below m some z), (p .0, p .1 ∙ ap (λ k. pos k +ℤ p .0 *ℤ pos m) e))),
+)

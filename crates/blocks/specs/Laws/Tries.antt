@@ -1,6 +1,7 @@
--- What SearchTheorems states, proved.
+-- The number tried: by the class that is found, by the blocks of a cut, and as it stands in the rows of all cuts.
 use Prim.Native.Nat.{ℕ, zero, suc, _+_, _-_, _^_, _≤_, _<_}
 use mathlib.Core.Path.{_≡_, sym, _∙_, ap, ap₂}
+use mathlib.Core.Logic.{_↔_}
 use mathlib.Core.List.{List, [], map}
 use native.Mathlib.Decide.{decLt}
 use native.Mathlib.Omega.{arith}
@@ -9,26 +10,23 @@ use lib.Seq.{getD-take, length-take-le}
 use lib.IntN.{ℤ}
 use lib.Pow.{pow-pos}
 use Rattle.numbers.specs.Laws.Lists.{getD-map}
-use Rattle.blocks.specs.Blocks.{blocks, differences}
+use Rattle.blocks.specs.Blocks.{block, blocks, differences}
 use Rattle.blocks.specs.Classes.{numberIn, distinct}
-use Rattle.blocks.specs.Rows.{numbersOf, cutNumbers, cutPlace, allTries}
-use Rattle.blocks.specs.Laws.Cuts.{lists-length}
+use Rattle.blocks.specs.Rows.{inRow, numbersOf, cutNumbers, allNumbers, allTries}
+use Rattle.blocks.specs.Laws.Classes.{same-class}
+use Rattle.blocks.specs.Laws.Cuts.{lists-length, length-cut-numbers}
 use Rattle.blocks.specs.Laws.Known.{number-at, own-distinct, Among, distinct-seen}
-use Rattle.blocks.specs.Laws.Places.{row-at}
+use Rattle.blocks.specs.Laws.Places.{row-at, class-at}
 use Rattle.blocks.specs.Searching.{foundIn, comparedIn, OrderOf}
 use Rattle.blocks.specs.Tries.{lookOrder, lookedUntil, numberTried, blockClass, knownBefore, triedAt, cutTries}
-use Rattle.blocks.specs.Laws.Latest.{none-before, class-met, class-most, latest-before, latest-known}
-use Rattle.blocks.specs.Laws.Order.{order-length, first-turn, turn-below, turn-cases, looked-known, turn-of, one-turn, tried-none, tried-in, tried-new}
+use Rattle.blocks.specs.Laws.Latest.{none-before, class-met, class-most, known-since, latest-before, latest-known}
+use Rattle.blocks.specs.Laws.Order.{order-length, first-turn, turn-below, turn-above, turn-cases, looked-known, turn-of, one-turn, tried-none, tried-in, tried-new}
 use Rattle.blocks.specs.Laws.TryRows.{tries-at, length-cut-tries}
 use Rattle.blocks.specs.Laws.Searching.{found-in, compared-in}
 
 -- ---- the order of looking
 
 module _ (known latest : ℕ) (is-known : latest < known) where
-  -- The class of the block just before comes first.
-  pub latest-first : getD (lookOrder known latest) 0 0 ≡ latest
-  latest-first = first-turn known latest is-known
-
   -- The others come from class 0 up.
   pub others-rise : (left right : ℕ) → 0 < left → left < right → right < known → getD (lookOrder known latest) left 0 < getD (lookOrder known latest) right 0
   others-rise left right some l r =
@@ -38,20 +36,24 @@ module _ (known latest : ℕ) (is-known : latest < known) where
       (λ m p. turn-cases known latest is-known right r (λ y q. absurd (omega arith)) (λ d n t q. absurd (omega arith)) (λ n q. omega arith))
 
   -- Each known class is looked at in one turn and in no other.
-  pub each-once : (class : ℕ) → class < known → (turn : ℕ) × ((turn < known) × ((getD (lookOrder known latest) turn 0 ≡ class) × ((other : ℕ) → other < known → getD (lookOrder known latest) other 0 ≡ class → other ≡ turn)))
+  pub each-once : (class : ℕ) → class < known
+      → (turn : ℕ) × (turn < known) × (getD (lookOrder known latest) turn 0 ≡ class) × ((other : ℕ) → other < known → getD (lookOrder known latest) other 0 ≡ class → other ≡ turn)
   each-once class below =
       let t = turn-of known latest is-known class below in
-      (t .0, (t .1 .0, (t .1 .1, λ other l e. one-turn known latest is-known other (t .0) l (t .1 .0) (e ∙ sym (t .1 .1)))))
+      (t .0, t .1 .0, t .1 .1, λ other l e. one-turn known latest is-known other (t .0) l (t .1 .0) (e ∙ sym (t .1 .1)))
 
   -- ---- the number tried, by the class that is found
 
   pub tried-latest : numberTried known latest latest ≡ 1
-  tried-latest = tried-in known latest is-known latest 0 (omega arith) latest-first
+  tried-latest = tried-in known latest is-known latest 0 (omega arith) (first-turn known latest is-known)
 
   pub tried-before-latest : (class : ℕ) → class < latest → numberTried known latest class ≡ class + 2
   tried-before-latest class l =
       tried-in known latest is-known class (suc class) (omega arith) (turn-below known latest is-known class l)
       ∙ (let e : suc class + 1 ≡ class + 2 = omega arith in e)
+
+  pub tried-behind-latest : (class : ℕ) → latest < class → class < known → numberTried known latest class ≡ class + 1
+  tried-behind-latest class l below = tried-in known latest is-known class class below (turn-above known latest is-known class l below)
 
 -- It is an order of the known classes, and holds no others, also where none is known.
 pub is-order : (known latest : ℕ) → (0 < known → latest < known) → OrderOf known (lookOrder known latest)
@@ -84,12 +86,26 @@ same-as-before ds before below e =
     ap₂ (numberTried (knownBefore ds (suc before))) (ap (blockClass ds) (let q : suc before - 1 ≡ before = omega arith in q)) e
     ∙ tried-latest (knownBefore ds (suc before)) (blockClass ds before) (latest-before ds before (omega arith))
 
+-- A class below that of the block just before is known; one above it is, where some block has it.
+module _ (ds : List (List ℤ)) (j : ℕ) (below : suc j < length ds) where
+  just-before : triedAt ds (suc j) ≡ numberTried (knownBefore ds (suc j)) (blockClass ds j) (blockClass ds (suc j))
+  unfolding triedAt
+  just-before = ap (λ k. numberTried (knownBefore ds (suc j)) (blockClass ds k) (blockClass ds (suc j))) (let q : suc j - 1 ≡ j = omega arith in q)
+
+  lower-class : blockClass ds (suc j) < blockClass ds j → triedAt ds (suc j) ≡ blockClass ds (suc j) + 2
+  lower-class l = just-before ∙ tried-before-latest (knownBefore ds (suc j)) (blockClass ds j) (latest-before ds j (omega arith)) (blockClass ds (suc j)) l
+
+  higher-class : (before : ℕ) → before < j → blockClass ds before ≡ blockClass ds (suc j) → blockClass ds j < blockClass ds (suc j) → triedAt ds (suc j) ≡ blockClass ds (suc j) + 1
+  higher-class before earlier e l =
+      let known = known-since ds before (suc j) (omega arith) (omega arith) in
+      just-before ∙ tried-behind-latest (knownBefore ds (suc j)) (blockClass ds j) (latest-before ds j (omega arith)) (blockClass ds (suc j)) l (omega arith)
+
 module _ (ds : List (List ℤ)) (j : ℕ) (below : j < length ds) where
   abbrev order : List ℕ
   order = lookOrder (knownBefore ds j) (blockClass ds (j - 1))
 
   -- A block that is equal to none before it has a new class, which is the next number.
-  pub new-class-is-next : ((before : ℕ) → before < j → getD ds before [] ≡ getD ds j [] → ⊥) → blockClass ds j ≡ knownBefore ds j
+  pub new-class-is-next : ((before : ℕ) → before < j → ¬ (getD ds before [] ≡ getD ds j [])) → blockClass ds j ≡ knownBefore ds j
   unfolding knownBefore Among
   new-class-is-next unseen = known-or-next (decLt (blockClass ds j) (knownBefore ds j))
     where
@@ -145,6 +161,7 @@ module _ (ds : List (List ℤ)) (j : ℕ) (below : j < length ds) where
 -- ---- the rows of a cut
 
 module _ (n : ℕ) (table : List ℤ) (h : ℕ) (cut : h ≤ n) where
+  -- The differences of its blocks, left to right.
   abbrev lists : List (List ℤ)
   lists = map differences (blocks n table (n - h))
 
@@ -160,9 +177,62 @@ module _ (n : ℕ) (table : List ℤ) (h : ℕ) (cut : h ≤ n) where
   pub cut-begins-with-none : getD (cutTries n table h) 0 0 ≡ 0
   cut-begins-with-none = row-of-tries 0 (pow-pos h) ∙ first-block lists
 
--- ---- the row of all cuts
+  -- ---- the rows of all cuts
 
--- Block j of cut h has its number at place 2^h - 1 + j.
-pub row-of-all-tries : (n : ℕ) (table : List ℤ) (h j : ℕ) → h ≤ n → j < 2 ^ h → getD (allTries n table) (cutPlace h + j) 0 ≡ getD (cutTries n table h) j 0
-unfolding allTries
-row-of-all-tries n table h j cut l = row-at (cutTries n table) n (λ k m. length-cut-tries n k m table) h j cut l
+  abbrev class : ℕ → ℕ
+  class j = inRow (allNumbers n table) h j
+
+  abbrev tried : ℕ → ℕ
+  tried j = inRow (allTries n table) h j
+
+  -- What stands there is what the blocks of the cut have.
+  pub row-of-all-tries : (j : ℕ) → j < 2 ^ h → tried j ≡ triedAt lists j
+  unfolding allTries
+  row-of-all-tries j l = row-at (cutTries n table) n (λ k m. length-cut-tries n k m table) h j cut l ∙ row-of-tries j l
+
+  class-stands : (j : ℕ) → j < 2 ^ h → class j ≡ blockClass lists j
+  unfolding allNumbers
+  class-stands j l = row-at (cutNumbers n table) n (λ k m. length-cut-numbers n k m table) h j cut l ∙ row-of-classes j l
+
+  inside : (j : ℕ) → j < 2 ^ h → j < length lists
+  inside j l = rw (lists-length n h cut table) l
+
+  -- Equal numbers stand exactly for equal differences.
+  pub same-in-row : (j k : ℕ) → j < 2 ^ h → k < 2 ^ h → (differences (block table (n - h) j) ≡ differences (block table (n - h) k)) ↔ (class j ≡ class k)
+  same-in-row j k lj lk =
+      let left = class-at n table h cut j lj in
+      let right = class-at n table h cut k lk in
+      let exactly = same-class n table h cut j k lj lk in (
+        (λ e. left ∙ exactly .1 e ∙ sym right),
+        (λ e. exactly .0 (sym left ∙ e ∙ right)),
+      )
+
+  -- The number tried, told by the classes.
+  pub first-tries-none : tried 0 ≡ 0
+  first-tries-none = row-of-all-tries 0 (pow-pos h) ∙ first-block lists
+
+  pub new-tries-all : (j : ℕ) → j < 2 ^ h → ((before : ℕ) → before < j → ¬ (class before ≡ class j)) → (class j ≡ knownBefore lists j) × (tried j ≡ knownBefore lists j)
+  unfolding blockClass
+  new-tries-all j l new =
+      let next = new-class-is-next lists j (inside j l)
+      (λ before b e. new before b (class-stands before (omega arith) ∙ ap (numberIn (distinct lists)) e ∙ sym (class-stands j l))) in
+      (class-stands j l ∙ next, row-of-all-tries j l ∙ new-class-takes-all lists j (inside j l) next)
+
+  module _ (j : ℕ) (next : suc j < 2 ^ h) where
+    here : class j ≡ blockClass lists j
+    here = class-stands j (omega arith)
+
+    there : class (suc j) ≡ blockClass lists (suc j)
+    there = class-stands (suc j) next
+
+    pub same-tries-one : class (suc j) ≡ class j → tried (suc j) ≡ 1
+    same-tries-one e = row-of-all-tries (suc j) next ∙ same-as-before lists j (inside (suc j) next) (sym there ∙ e ∙ here)
+
+    pub lower-tries : class (suc j) < class j → tried (suc j) ≡ class (suc j) + 2
+    lower-tries l = row-of-all-tries (suc j) next ∙ lower-class lists j (inside (suc j) next) (let a = here in let b = there in omega arith) ∙ ap (λ c. c + 2) (sym there)
+
+    pub higher-tries : (before : ℕ) → before < j → class before ≡ class (suc j) → class j < class (suc j) → tried (suc j) ≡ class (suc j) + 1
+    higher-tries before earlier e l =
+        row-of-all-tries (suc j) next
+        ∙ higher-class lists j (inside (suc j) next) before earlier (sym (class-stands before (omega arith)) ∙ e ∙ there) (let a = here in let b = there in omega arith)
+        ∙ ap (λ c. c + 1) (sym there)

@@ -1,4 +1,4 @@
--- What UseTheorems states, proved.
+-- Uses so far, use counts and the commonest class: of blocks given by their classes, of a cut, and as they stand in the rows of all cuts.
 use Prim.Native.Nat.{ℕ, zero, suc, _+_, _-_, _^_, _≤_, _<_}
 use mathlib.Core.Path.{_≡_, refl, sym, _∙_, ap}
 use mathlib.Core.Bool.{true≢false}
@@ -15,9 +15,9 @@ use Rattle.numbers.specs.Lists.{numbersFrom, sumOf}
 use Rattle.numbers.specs.Laws.Tallies.{none-passes, tally-append}
 use Rattle.blocks.specs.Blocks.{block}
 use Rattle.blocks.specs.Classes.{classCount, classOf}
-use Rattle.blocks.specs.Rows.{cutPlace, cutUseRow, allUses, allUseRows}
-use Rattle.blocks.specs.Laws.Classes.{class-below, class-used, one-class-at-top, one-class-at-bottom}
-use Rattle.blocks.specs.Laws.Places.{row-at}
+use Rattle.blocks.specs.Rows.{cutPlace, inRow, useRow, cutUseRow, allNumbers, allUses, allUseRows}
+use Rattle.blocks.specs.Laws.Classes.{class-below, class-used, class-count-le, one-class-at-top, one-class-at-bottom}
+use Rattle.blocks.specs.Laws.Places.{row-at, row-part, class-at}
 use Rattle.blocks.specs.Uses.{useCount, usesAt, classesAt, cutUses, useCounts, commonest, commonestAt}
 use Rattle.blocks.specs.declared.Common.{Common}
 use Rattle.blocks.specs.Laws.Commonest.{commonest-leads, leading-is}
@@ -32,13 +32,13 @@ module _ (classes : List ℕ) (j : ℕ) (below : j < length classes) where
   block-included = uses-include classes j below ∙ (let t = useCount (take j classes) (getD classes j 0) in let e : suc t ≡ 1 + t = omega arith in e)
 
   -- so 1 at the first block of a class,
-  pub first-use : ((before : ℕ) → before < j → getD classes j 0 ≡ getD classes before 0 → ⊥) → usesAt classes j ≡ 1
+  pub first-use : ((before : ℕ) → before < j → ¬ (getD classes j 0 ≡ getD classes before 0)) → usesAt classes j ≡ 1
   first-use none =
       uses-include classes j below
       ∙ ap suc (unused (getD classes j 0) (take j classes) (λ i m e. let i-below : i < j = (let t = length-take-le j classes (omega arith) in omega arith) in none i i-below (e ∙ getD-take j classes i 0 i-below)))
 
   -- and at the last one its use count.
-  pub last-use : ((behind : ℕ) → j < behind → behind < length classes → getD classes j 0 ≡ getD classes behind 0 → ⊥) → usesAt classes j ≡ useCount classes (getD classes j 0)
+  pub last-use : ((behind : ℕ) → j < behind → behind < length classes → ¬ (getD classes j 0 ≡ getD classes behind 0)) → usesAt classes j ≡ useCount classes (getD classes j 0)
   unfolding usesAt useCount
   last-use none =
       (let t = useCount (take (suc j) classes) (getD classes j 0) in let e : t ≡ t + 0 = omega arith in e)
@@ -148,18 +148,22 @@ commonest-at-bottom n table whole = one-class-for-all n table n (omega arith) (o
 -- ---- the rows of all cuts
 
 module _ (n : ℕ) (table : List ℤ) (h : ℕ) (cut : h ≤ n) where
-  -- Block j of cut h has its uses so far at place 2^h - 1 + j,
-  pub row-of-all-uses : (j : ℕ) → j < 2 ^ h → getD (allUses n table) (cutPlace h + j) 0 ≡ usesAt (classesAt n table h) j
+  -- A block's class,
+  pub row-of-block-classes : (j : ℕ) → j < 2 ^ h → inRow (allNumbers n table) h j ≡ getD (classesAt n table h) j 0
+  row-of-block-classes j l = class-at n table h cut j l ∙ sym (class-of-block n table h cut j l)
+
+  -- its uses so far,
+  pub row-of-all-uses : (j : ℕ) → j < 2 ^ h → inRow (allUses n table) h j ≡ usesAt (classesAt n table h) j
   unfolding allUses
   row-of-all-uses j l = row-at (cutUses n table) n (length-cut-uses n table) h j cut l ∙ uses-at n table h cut j l
 
-  -- and a class its use count at place 2^h - 1 + its number,
-  pub row-of-use-counts : (class : ℕ) → class < 2 ^ h → getD (allUseRows n table) (cutPlace h + class) 0 ≡ useCount (classesAt n table h) class
+  -- a class's use count,
+  pub row-of-use-counts : (class : ℕ) → class < 2 ^ h → inRow (allUseRows n table) h class ≡ useCount (classesAt n table h) class
   unfolding allUseRows
   row-of-use-counts class l = row-at (cutUseRow n table) n (length-cut-use-row n table) h class cut l ∙ cut-use-row-at n table h cut class l
 
-  -- where past the last class stands 0.
-  pub none-past-the-last : (class : ℕ) → classCount n table h ≤ class → class < 2 ^ h → getD (allUseRows n table) (cutPlace h + class) 0 ≡ 0
+  -- 0 past the last class,
+  pub none-past-the-last : (class : ℕ) → classCount n table h ≤ class → class < 2 ^ h → inRow (allUseRows n table) h class ≡ 0
   none-past-the-last class past l =
       row-of-use-counts class l
       ∙ unused class (classesAt n table h)
@@ -168,3 +172,18 @@ module _ (n : ℕ) (table : List ℤ) (h : ℕ) (cut : h ≤ n) where
       let known = class-below n table h cut i inside in
       let is = class-of-block n table h cut i inside in
       omega arith)
+
+  -- and the sum of the cut's use counts.
+  pub row-sums : sumOf (take (2 ^ h) (drop (cutPlace h) (allUseRows n table))) ≡ 2 ^ h
+  unfolding allUseRows cutUseRow useRow
+  row-sums =
+      ap sumOf (row-part (cutUseRow n table) n (length-cut-use-row n table) h cut)
+      ∙ uses-sum (length (classesAt n table h)) (classesAt n table h)
+      (λ i m.
+      let inside : i < 2 ^ h = rw (length-classes n table h cut) at m in
+      let known = class-below n table h cut i inside in
+      let is = class-of-block n table h cut i inside in
+      let few = class-count-le n table h cut in
+      let long = length-classes n table h cut in
+      omega arith)
+      ∙ length-classes n table h cut

@@ -18,7 +18,8 @@ module _ (n : ℕ) (table : List ℤ) (whole : length table ≡ 2 ^ n) where
       → nodeCount n table + l ≤ 2 ^ (n - l) + risingKinds p l + jumps n table p * l
   node-bound-natural = proved.node-bound-natural n table whole
 
-  -- The node count is at most 2^(n-l) + (sum over i = 1..l of (p+1)^(2^i - 1)) + (k-1)·l; where k is 0, the last part is -l.
+  -- The node count is at most 2^(n-l) + (sum over i = 1..l of (p+1)^(2^i - 1)) + (k-1)·l.
+  -- Where k is 0, the last part is -l.
   pub node-bound : (p l : ℕ) → 1 ≤ l → l ≤ n → pos (nodeCount n table) ≤ℤ nodeBound n table p l
   node-bound = proved.node-bound n table whole
 

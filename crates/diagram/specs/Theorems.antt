@@ -1,4 +1,5 @@
--- Demand 2: the records are the reduced diagram, walking them gives the table back, and equal records tell tables apart up to a constant.
+-- Demand 2: the records are the reduced diagram, walking them gives the table back, and equal records tell tables apart up to
+-- a constant.
 -- Least and greatest: what they are, and what Walk's check asks of them.
 use Prim.Native.Nat.{ℕ, suc, _-_, _*_, _%_, _^_, _≤_, _<_}
 use mathlib.Core.Path.{_≡_}
@@ -86,7 +87,8 @@ pub equal-records : (n : ℕ) (f g : List ℤ) → Accepted n f → Accepted n g
 equal-records = same.equal-records
 
 module _ (n : ℕ) (f g buffer buffer′ : List ℤ) (s t : Summary)
-    (built-f : buildAnswer n f (length buffer) ≡ accepted s) (built-g : buildAnswer n g (length buffer′) ≡ accepted t) where
+    (built-f : buildAnswer n f (length buffer) ≡ accepted s)
+    (built-g : buildAnswer n g (length buffer′) ≡ accepted t) where
   -- What Build left in the records' parts of two buffers is equal exactly when the tables differ by one constant.
   pub equal-builds : (recordPart (s .nodes) (buildBuffer n f buffer) ≡ recordPart (t .nodes) (buildBuffer n g buffer′))
       ↔ ByAConstant f g
@@ -103,15 +105,19 @@ module _ (n : ℕ) (table : List ℤ) (admitted : Accepted n table) where
   pub root-is-last : node n table n table ≡ length (records n table)
   root-is-last = reduced.root-is-last n table (admitted .size)
 
+  -- The differences of block j of height i as a function of X, whose low i bits say which.
+  abbrev differenceAt : ℕ → ℕ → ℕ → ℤ
+  differenceAt i j x = getD (differences (block table i j)) (x % 2 ^ i) (pos 0)
+
   -- The node of block j of height i stands for the block's differences.
-  pub each-block-has-node : (i j : ℕ) → i ≤ n → j < 2 ^ (n - i) → (x : ℕ)
-      → nodeFunction n table (node n table i (block table i j)) x ≡ getD (differences (block table i j)) (x % 2 ^ i) (pos 0)
+  pub each-block-has-node : (i j : ℕ) → i ≤ n → j < 2 ^ (n - i)
+      → (x : ℕ) → nodeFunction n table (node n table i (block table i j)) x ≡ differenceAt i j x
   each-block-has-node = reduced.block-differences n table (admitted .size)
 
   -- Each record stands for some block: a record of variable i for the differences of a block of height i + 1.
   pub each-record-has-block : (k : ℕ) → 1 ≤ k → k ≤ length (records n table)
       → (i : ℕ) × (j : ℕ) × (i < n) × (j < 2 ^ (n - suc i)) × (variableAt (written n table) k ≡ pos i)
-      × ((x : ℕ) → nodeFunction n table k x ≡ getD (differences (block table (suc i) j)) (x % 2 ^ suc i) (pos 0))
+      × ((x : ℕ) → nodeFunction n table k x ≡ differenceAt (suc i) j x)
   each-record-has-block = reduced.record-has-block n table (admitted .size)
 
   -- No record has equal children and weight 0.
@@ -131,7 +137,8 @@ module _ (n : ℕ) (table : List ℤ) (admitted : Accepted n table) where
 pub zero-at-zero : (n : ℕ) (list : List ℤ) (k : ℕ) → pathWeight list n k 0 ≡ pos 0
 zero-at-zero n list k = path-zero list n k
 
--- In a list that passes Walk's check, the fifth number of a record is the least value of its function, and the sixth the greatest.
+-- In a list that passes Walk's check, the fifth number of a record is the least value of its function, and the sixth the
+-- greatest.
 pub least-of-record : (n : ℕ) (list : List ℤ) → listFits n list ≡ true → (k : ℕ) → 1 ≤ k → k ≤ recordCount list
     → LeastOver (Domain n) (pathWeight list n k) (leastAt list k)
 least-of-record = extremes.least-of-record
@@ -149,8 +156,8 @@ pub build-greatest : (n : ℕ) (table : List ℤ) → Accepted n table → (k : 
     → GreatestOver (Domain n) (nodeFunction n table k) (greatestAt (written n table) k)
 build-greatest = extremes.build-greatest
 
--- A list some record of which has a fifth number that is not the least of its function is refused with 6, also at an X past the table;
--- likewise with a sixth number that is not the greatest.
+-- A list some record of which has a fifth number that is not the least of its function is refused with 6, also at an X past
+-- the table; likewise with a sixth number that is not the greatest.
 module _ (n : ℕ) (start : ℤ) (list : List ℤ) (variables : Variables n) (value : TableValue start) where
   pub untrue-least-refused : (k : ℕ) → 1 ≤ k → k ≤ recordCount list
       → ¬ LeastOver (Domain n) (pathWeight list n k) (leastAt list k)
@@ -165,7 +172,8 @@ module _ (n : ℕ) (start : ℤ) (list : List ℤ) (variables : Variables n) (va
 -- The fifth number of record k is the least value of its function, and the sixth the greatest.
 abbrev TrueNumbers : ℕ → List ℤ → ℕ → Type 0
 TrueNumbers n list k =
-    LeastOver (Domain n) (pathWeight list n k) (leastAt list k) × GreatestOver (Domain n) (pathWeight list n k) (greatestAt list k)
+    LeastOver (Domain n) (pathWeight list n k) (leastAt list k)
+    × GreatestOver (Domain n) (pathWeight list n k) (greatestAt list k)
 
 module _ (n : ℕ) (list : List ℤ) (edges : (k : ℕ) → 1 ≤ k → k ≤ recordCount list → edgesFit n list k ≡ true) where
   -- A list of fitting edges, reduced or not and with unused records or not, passes with true numbers.

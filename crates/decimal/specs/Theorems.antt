@@ -12,8 +12,8 @@ use Rattle.decimal.specs.Conditions.{Condition}
 use Rattle.decimal.specs.Laws.Conditions as proved
 use Rattle.decimal.specs.Laws.Written.{table-back}
 
--- Every table that a text can give is read back from its own text: n from 1 to 12, a limit of one byte, and 2^n values of
--- 32 bits.
+-- Every table that a text can give is read back from its own text: n from 1 to 12, a limit of one byte, and 2^n values
+-- of 32 bits.
 pub written-read : (table : Table) → Variables (table .n) → table .limit ≤ 255 → length (table .values) ≡ 2 ^ table .n
     → ((j : ℕ) → j < length (table .values) → Signed32 (getD (table .values) j (pos 0)))
     → textRead (tableText table) ≡ got table

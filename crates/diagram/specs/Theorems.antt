@@ -1,5 +1,5 @@
--- Demand 2: the records are the reduced diagram, walking them gives the table back, and equal records tell tables apart up to
--- a constant.
+-- Demand 2: the records are the reduced diagram, walking them gives the table back, and equal records tell tables apart up
+-- to a constant.
 -- Least and greatest: what they are, and what Walk's check asks of them.
 use Prim.Native.Nat.{ℕ, suc, _-_, _*_, _%_, _^_, _≤_, _<_}
 use mathlib.Core.Path.{_≡_}
@@ -77,7 +77,7 @@ module _ (n : ℕ) (table : List ℤ) where
 
 -- ---- equal records
 
--- One table is another with one constant added to every value.
+-- The second table is the first with one constant added to every value.
 abbrev ByAConstant : List ℤ → List ℤ → Type 0
 ByAConstant f g = (c : ℤ) × (g ≡ map (λ v. v +ℤ c) f)
 
@@ -95,7 +95,7 @@ module _ (n : ℕ) (f g buffer buffer′ : List ℤ) (s t : Summary)
   equal-builds = same.equal-builds n f g buffer buffer′ s t built-f built-g
 
   -- Then the node counts are equal.
-  pub equal-counts : (c : ℤ) → g ≡ map (λ v. v +ℤ c) f → s .nodes ≡ t .nodes
+  pub equal-counts : ByAConstant f g → s .nodes ≡ t .nodes
   equal-counts = same.equal-counts n f g buffer buffer′ s t built-f built-g
 
 -- ---- the records are the reduced diagram
@@ -137,8 +137,8 @@ module _ (n : ℕ) (table : List ℤ) (admitted : Accepted n table) where
 pub zero-at-zero : (n : ℕ) (list : List ℤ) (k : ℕ) → pathWeight list n k 0 ≡ pos 0
 zero-at-zero n list k = path-zero list n k
 
--- In a list that passes Walk's check, the fifth number of a record is the least value of its function, and the sixth the
--- greatest.
+-- In a list that passes Walk's check, the fifth number of a record is the least value of its function, and the sixth
+-- the greatest.
 pub least-of-record : (n : ℕ) (list : List ℤ) → listFits n list ≡ true → (k : ℕ) → 1 ≤ k → k ≤ recordCount list
     → LeastOver (Domain n) (pathWeight list n k) (leastAt list k)
 least-of-record = extremes.least-of-record
@@ -156,8 +156,8 @@ pub build-greatest : (n : ℕ) (table : List ℤ) → Accepted n table → (k : 
     → GreatestOver (Domain n) (nodeFunction n table k) (greatestAt (written n table) k)
 build-greatest = extremes.build-greatest
 
--- A list some record of which has a fifth number that is not the least of its function is refused with 6, also at an X past
--- the table; likewise with a sixth number that is not the greatest.
+-- A list some record of which has a fifth number that is not the least of its function is refused with 6, also at an X
+-- past the table; likewise with a sixth number that is not the greatest.
 module _ (n : ℕ) (start : ℤ) (list : List ℤ) (variables : Variables n) (value : TableValue start) where
   pub untrue-least-refused : (k : ℕ) → 1 ≤ k → k ≤ recordCount list
       → ¬ LeastOver (Domain n) (pathWeight list n k) (leastAt list k)

@@ -27,8 +27,8 @@ number-in-digits = proved.number-in-digits
 pub number-no-longer : (k number : ℕ) → 1 ≤ k → number < 10 ^ k → length (decimal (pos number)) ≤ k
 number-no-longer = proved.number-no-longer
 
--- A text of lines whose words have neither spaces nor newline bytes, taken apart into its lines and their fields, gives the
--- words and the numbers back.
+-- A text of lines whose words have neither spaces nor newline bytes, taken apart into its lines and their fields, gives
+-- the words and the numbers back.
 pub lines-read-back : (ls : List Line) → ((j : ℕ) → j < length ls → Plain (getD ls j emptyLine))
     → readLines (flatMap lineText ls) ≡ ls
 lines-read-back = plain-lines-back

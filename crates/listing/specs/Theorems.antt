@@ -1,5 +1,5 @@
--- What the listing program writes, for every input: which line each refusal prints and when, the table's text otherwise,
--- numbers that are read back, and an input's bytes beyond the longest admitted one.
+-- What the listing program writes, for every input: which line each refusal prints and when, the table's text
+-- otherwise, numbers that are read back, and an input's bytes beyond the longest admitted one.
 use Prim.Native.Nat.{ℕ, _+_, _*_, _^_, _≤_, _<_}
 use mathlib.Core.Logic.{_↔_}
 use mathlib.Core.Path.{_≡_}
@@ -56,7 +56,8 @@ module _ (input : List ℕ) where
 
     module _ (count : length input ≡ 2 + 4 * 2 ^ n) where
       -- A value out of range.
-      pub value-outside : (j : ℕ) → j < length values → ¬ TableValue (getD values j (pos 0)) → listing input ≡ refusedBy 3
+      pub value-outside : (j : ℕ) → j < length values → ¬ TableValue (getD values j (pos 0))
+          → listing input ≡ refusedBy 3
       value-outside = proved.value-outside input inside count
 
       module _ (ranged : (j : ℕ) → j < length values → TableValue (getD values j (pos 0))) where
@@ -76,8 +77,8 @@ module _ (input : List ℕ) where
 
 -- ---- the text taken apart
 
--- The lines of a table's text, with their fields, give n, offset, variable, low, high and weight of each record, the node
--- count, the cells and the total back.
+-- The lines of a table's text, with their fields, give n, offset, variable, low, high and weight of each record, the
+-- node count, the cells and the total back.
 pub text-read-back : (n : ℕ) (table : List ℤ) (sizes : List ℕ)
     → readLines (tableText n table sizes) ≡ tableLines n table sizes
 text-read-back = text-apart

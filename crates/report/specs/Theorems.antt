@@ -32,7 +32,8 @@ module _ (n : ℕ) (start : ℤ) (list : List ℤ) (a b : ℕ) where
   pub five-before-six : Variables n → ¬ TableValue start → report n start list a b ≡ refused 5
   five-before-six = proved.five-before-six n start list a b
 
-  pub six-before-fifteen : Variables n → TableValue start → listFits n list ≡ false → report n start list a b ≡ refused 6
+  pub six-before-fifteen : Variables n → TableValue start → listFits n list ≡ false
+      → report n start list a b ≡ refused 6
   six-before-fifteen = proved.six-before-fifteen n start list a b
 
   module _ (variables : Variables n) (value : TableValue start) (fits : listFits n list ≡ true) where
@@ -56,6 +57,7 @@ module _ (n : ℕ) (start : ℤ) (list : List ℤ) (a b : ℕ) where
         → walk n start list x ≡ accepted (getD (valuesFrom n start list a b) (x - a) (pos 0))
     values-are-walks = proved.values-are-walks n start list a b f e
 
+    -- How many they are.
     pub counts-both-ends : f .count ≡ b - a + 1
     counts-both-ends = proved.counts-both-ends n start list a b f e
 
@@ -78,13 +80,16 @@ module _ (n : ℕ) (start : ℤ) (list : List ℤ) (a b : ℕ) where
 -- ---- its sum, X by X
 
 module _ (n : ℕ) (start : ℤ) (list : List ℤ) (a : ℕ) where
+  -- The sum of the values from a to b.
+  abbrev sumTo : ℕ → ℤ
+  sumTo b = exactSum (valuesFrom n start list a b)
+
   -- The sum over one X is its value.
-  pub sum-of-one : exactSum (valuesFrom n start list a a) ≡ walkValue n start list a
+  pub sum-of-one : sumTo a ≡ walkValue n start list a
   sum-of-one = sum-one n start list a
 
   -- With one X more, its value is added.
-  pub sum-of-one-more : (b : ℕ) → a ≤ b
-      → exactSum (valuesFrom n start list a (b + 1)) ≡ exactSum (valuesFrom n start list a b) +ℤ walkValue n start list (b + 1)
+  pub sum-of-one-more : (b : ℕ) → a ≤ b → sumTo (b + 1) ≡ sumTo b +ℤ walkValue n start list (b + 1)
   sum-of-one-more = sum-more n start list a
 
 -- ---- the records of a table

@@ -54,7 +54,7 @@ module _ {le : ℤ → ℤ → Bool} {pick : ℤ → ℤ → ℤ} {of : List ℤ
       let h : m .0 < 2 ^ n = rw values-length at (m .1 .0) in
       (m .0, (h, m .1 .1 ∙ value-at n list k (m .0) h))
 
-  -- And no other number does and is.
+  -- A number is it exactly where it is the first over the domain.
   pub extreme-over : (k : ℕ) (z : ℤ) → (z ≡ of (nodeValues n list k)) ↔ FirstOver le (Domain n) (pathWeight list n k) z
   extreme-over k z = (
     (λ p.

@@ -140,9 +140,9 @@ module _ (n : ℕ) (f g buffer buffer′ : List ℤ) (s t : Summary) (built-f : 
   )
 
   -- Then the node counts are equal.
-  pub equal-counts : (c : ℤ) → g ≡ map (λ v. v +ℤ c) f → s .nodes ≡ t .nodes
+  pub equal-counts : ((c : ℤ) × (g ≡ map (λ v. v +ℤ c) f)) → s .nodes ≡ t .nodes
   unfolding nodeCount
-  equal-counts c e =
+  equal-counts d =
       ap (λ u. u .nodes) (build-summary n f (length buffer) s built-f)
-      ∙ ap (λ rs. suc (length rs)) (sym (ap (records n) e ∙ records-shift n c f))
+      ∙ ap (λ rs. suc (length rs)) (sym (ap (records n) (d .1) ∙ records-shift n (d .0) f))
       ∙ sym (ap (λ u. u .nodes) (build-summary n g (length buffer′) t built-g))

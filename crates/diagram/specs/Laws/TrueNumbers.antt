@@ -1,5 +1,5 @@
 -- The least and the greatest that records carry: in a list that passes Walk's check, in what Build writes, and what an untrue one meets.
-use Prim.Native.Nat.{ℕ, _%_, _^_, _≤_, _<_}
+use Prim.Native.Nat.{ℕ, _%_, _≤_}
 use mathlib.Core.Path.{_≡_}
 use mathlib.Core.Bool.{true}
 use mathlib.Core.List.{List}

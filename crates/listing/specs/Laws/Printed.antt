@@ -7,7 +7,7 @@ use mathlib.Core.List.{List, [], _∷_}
 use native.Mathlib.Omega.{arith}
 use lib.ListN.{length, getD}
 use lib.IntN.{ℤ, pos}
-use Rattle.numbers.specs.Answers.{accepted, refused}
+use Rattle.numbers.specs.Answers.{refused}
 use Rattle.numbers.specs.Conditions.{Limit, TableValue}
 use Rattle.numbers.specs.Lists.{every}
 use Rattle.numbers.specs.Ranges.{isLimit, isValue}

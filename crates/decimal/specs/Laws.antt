@@ -8,5 +8,4 @@ pub mod Items
 pub mod Values
 pub mod Tables
 pub mod Conditions
-pub mod Theorems
 pub mod Written

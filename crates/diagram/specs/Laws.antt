@@ -24,4 +24,4 @@ pub mod Reduced
 pub mod Fits
 pub mod Walks
 pub mod SameRecords
-pub mod Theorems
+pub mod TrueNumbers

@@ -1,7 +1,6 @@
 -- What is proved of the definitions of this crate; a file stands behind those whose laws it cites.
 pub mod Decimals
 pub mod Digits
-pub mod Theorems
 pub mod Writing
 pub mod Pieces
 pub mod Apart

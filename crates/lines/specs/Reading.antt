@@ -1,7 +1,8 @@
 -- Decimal numbers and lines read back from their bytes: what a text is held by.
-use Prim.Native.Nat.{ℕ, _+_, _-_, _*_}
+use Prim.Native.Nat.{ℕ, _+_, _-_, _*_, _<_}
 use mathlib.Core.Bool.{Bool, true, false, _&&_}
 use mathlib.Core.List.{List, [], _∷_, _++_, map}
+use lib.ListN.{length, getD}
 use lib.Dec.{leb, ltb, eqb}
 use lib.IntN.{ℤ, pos, negℤ}
 use Rattle.numbers.specs.Lists.{every}
@@ -36,16 +37,23 @@ pub record Line : Type 0 where
   pub word : List ℕ
   pub numbers : List ℤ
 
--- Its word has neither spaces nor newline bytes.
+-- Its word has neither spaces nor newline bytes: the test, and the condition.
 unfoldable pub isPlain : Line → Bool
 isPlain l = every (ltb 32) (l .word)
+
+abbrev pub Plain : Line → Type 0
+Plain l = (j : ℕ) → j < length (l .word) → 32 < getD (l .word) j 0
+
+-- A line without word and numbers.
+abbrev pub emptyLine : Line
+emptyLine = record { word = []; numbers = [] }
 
 unfoldable pub lineText : Line → List ℕ
 lineText l = l .word ++ fields (l .numbers)
 
 -- The first field of a line is its word, the others are numbers.
 unfoldable pub lineOf : List (List ℕ) → Line
-lineOf [] = record { word = []; numbers = [] }
+lineOf [] = emptyLine
 lineOf (word ∷ others) = record { word = word; numbers = map readDecimal others }
 
 -- A line without its newline byte, its fields being parted by spaces.

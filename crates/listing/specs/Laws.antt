@@ -1,10 +1,10 @@
 -- What is proved of the definitions of this crate; a file stands behind those whose laws it cites.
 pub mod Apart
-pub mod Kept
 pub mod Listed
+pub mod Kept
+pub mod Printed
 pub mod Shown
 pub mod Lengths
 pub mod Texts
-pub mod Theorems
 pub mod Values
 pub mod Inputs

@@ -20,6 +20,10 @@ Limit limit = (1 ≤ limit) × (limit ≤ 12)
 unfoldable pub TableValue : ℤ → Type 0
 TableValue z = Between (negℤ (pos 8388608)) (pos 8388607) z
 
+-- A signed 32-bit number: from -2,147,483,648 to 2,147,483,647.
+unfoldable pub Signed32 : ℤ → Type 0
+Signed32 z = Between (negℤ (pos 2147483648)) (pos 2147483647) z
+
 -- X of the domain, below 2^n.
 abbrev pub Domain : ℕ → ℕ → Type 0
 Domain n x = x < 2 ^ n

@@ -21,5 +21,5 @@ pub mod Widths
 pub mod BitLength
 pub mod Extremes
 pub mod Extremal
-pub mod Theorems
+pub mod WeightWidth
 pub mod Written

@@ -1,5 +1,4 @@
 -- What is proved of the definitions of this crate; a file stands behind those whose laws it cites.
 pub mod Reports
 pub mod Answers
-pub mod Theorems
 pub mod Tops

@@ -1,6 +1,7 @@
 -- What a text gives and the condition of it are the same.
 use Prim.Native.Nat.{ℕ, zero, suc, _^_, _<_}
-use mathlib.Core.Path.{_≡_, refl, sym, _∙_, ap, ap₂}
+use mathlib.Core.Path.{_≡_, refl, sym, _∙_, ap, ap₂, subst}
+use mathlib.Core.Logic.{_↔_}
 use mathlib.Core.Bool.{true, false, false≢true}
 use mathlib.Core.List.{List, [], _∷_, _++_, map}
 use native.Mathlib.Omega.{arith}
@@ -225,7 +226,7 @@ module _ (text : List ℕ) where
       (λ a. behind-variables word first e f a)
       (λ a. rw (no-variables (lastLine text) (laterWords text) (later-all text) (word ∷ first) f a) (refl, ap (startsWith 1 12) e ∙ a))
 
-  pub condition-holds : Condition text (textRead text)
+  condition-holds : Condition text (textRead text)
   condition-holds = rw by-lines (by-first (firstWords text) refl (first-all text))
 
   -- And the text gives what has the condition.
@@ -256,7 +257,7 @@ module _ (text : List ℕ) where
       ∙ with-limit (lastLine text) (laterWords text) (later-all text) (mag (numberOf (n-word .bytes))) limit-word (word ∷ first) (limit-first .0) (c .limit)
       ∙ too-long (lastLine text) (laterWords text) (later-all text) (mag (numberOf (n-word .bytes))) (mag (numberOf (limit-word .bytes))) word first (word-first .0)
 
-  pub condition-gives : (read : Read Table) → Condition text read → textRead text ≡ read
+  condition-gives : (read : Read Table) → Condition text read → textRead text ≡ read
   condition-gives (got table) c =
       let v = c .1 in
       headed-by (c .0)
@@ -275,3 +276,6 @@ module _ (text : List ℕ) where
       headed-by (c .1 .1 .0)
       ∙ ap (mapRead (λ values. record { n = c .0; limit = c .1 .0; values = values }))
       (ap₂ (valuesRead (lastLine text)) (sym (m .many)) (m .split) ∙ too-many (lastLine text) (m .before) (m .word) (m .after) (m .all) ∙ ap (λ line. wrong line TextEnd) (sym (m .here)))
+
+  pub given-exactly : (read : Read Table) → Condition text read ↔ (textRead text ≡ read)
+  given-exactly read = (condition-gives read, λ e. subst (Condition text) e condition-holds)

@@ -1,17 +1,19 @@
 -- Numbers written in decimal are words, and are read back.
-use Prim.Native.Nat.{ℕ, suc, _+_, _^_, _/_, _%_, _≤_}
+use Prim.Native.Nat.{ℕ, suc, _+_, _^_, _/_, _%_, _≤_, _<_}
 use mathlib.Core.Path.{_≡_, refl, sym, _∙_, ap, ap₂}
 use mathlib.Core.Bool.{true, false, _&&_}
 use mathlib.Core.List.{List, [], _∷_, _++_, flatMap, append-assoc}
 use native.Mathlib.Omega.{arith}
-use lib.ListN.{length}
+use lib.ListN.{length, getD}
 use lib.Dec.{leb}
 use lib.IntN.{ℤ, pos, negsuc, negℤ}
 use lib.Signed.{mag}
 use borrow.Author.Tests.{leb-true, le-leb, ne-eqb}
+use Rattle.numbers.specs.Conditions.{Variables, Signed32}
 use Rattle.numbers.specs.Lists.{every}
 use Rattle.numbers.specs.Ranges.{within}
 use Rattle.numbers.specs.Laws.Bools.{both, and-both}
+use Rattle.numbers.specs.Laws.Tests.{every-test, signed-32-test}
 use Rattle.lines.specs.Reading.{isDigit, readDigits, readDecimal}
 use Rattle.lines.specs.Text.{decimal}
 use Rattle.lines.specs.Laws.Decimals.{decimal-small, decimal-step, decimal-negative, by-digits, digits-alone, decimal-back}
@@ -144,16 +146,18 @@ first-line n limit rest =
     ∙ decimal-first 1 (pos n) 32 (decimal (pos limit) ++ 10 ∷ rest) refl
     ∙ ap (λ more. record { line = 1; bytes = decimal (pos n) } ∷ more) (decimal-first 1 (pos limit) 10 rest refl)
 
-pub table-back : (table : Table) → 1 ≤ table .n → table .n ≤ 12 → table .limit ≤ 255 → length (table .values) ≡ 2 ^ table .n → every isWhole (table .values) ≡ true → textRead (tableText table) ≡ got table
-unfolding textRead tableText
-table-back table some few small count fits =
+-- A table is read back from its text.
+pub table-back : (table : Table) → Variables (table .n) → table .limit ≤ 255 → length (table .values) ≡ 2 ^ table .n
+    → ((j : ℕ) → j < length (table .values) → Signed32 (getD (table .values) j (pos 0))) → textRead (tableText table) ≡ got table
+unfolding textRead tableText Variables
+table-back table variables small count fits =
     ap (wordsRead end) text-words
-    ∙ variables-found end (record { line = 1; bytes = decimal (pos (table .n)) }) (record { line = 1; bytes = decimal (pos (table .limit)) } ∷ below) (decimal-heading 1 12 (table .n) some few)
+    ∙ variables-found end (record { line = 1; bytes = decimal (pos (table .n)) }) (record { line = 1; bytes = decimal (pos (table .limit)) } ∷ below) (decimal-heading 1 12 (table .n) (variables .0) (variables .1))
     ∙ ap (λ n. limitRead end (mag n) (record { line = 1; bytes = decimal (pos (table .limit)) } ∷ below)) (decimal-read (pos (table .n)))
     ∙ limit-found end (record { line = 1; bytes = decimal (pos (table .limit)) }) below (table .n) (decimal-heading 0 255 (table .limit) (omega arith) small)
     ∙ ap (λ limit. bodyRead end (table .n) (mag limit) below) (decimal-read (pos (table .limit)))
     ∙ body-values end (table .n) (table .limit) below (values-below (table .values))
-    ∙ ap (mapRead (λ values. record { n = table .n; limit = table .limit; values = values })) (ap (λ k. valuesRead end k below) (sym count) ∙ values-back end 2 (table .values) fits)
+    ∙ ap (mapRead (λ values. record { n = table .n; limit = table .limit; values = values })) (ap (λ k. valuesRead end k below) (sym count) ∙ values-back end 2 (table .values) (every-test isWhole (table .values) (pos 0) signed-32-test .1 fits))
   where
     end : ℕ
     end = lastLine (tableText table)

@@ -7,25 +7,22 @@ use mathlib.Core.List.{List, _++_}
 use lib.ListN.{length, drop}
 use lib.IntN.{ℤ, pos, negℤ, natAbs}
 use lib.Dec.{leb, ltb, eqb}
-use lib.Signed.{leZ, ltZ}
+use lib.Signed.{ltZ}
 use Rattle.numbers.specs.Answers.{Answer, accepted}
 use Rattle.numbers.specs.Extremes.{leastOf, greatestOf}
 use Rattle.numbers.specs.Lists.{every, numbersFrom}
 use Rattle.numbers.specs.Ranges.{isVariables, isValue, isWeight, within, eqZ}
-use Rattle.numbers.specs.Laws.Extremal.{leasts, greatests}
-use Rattle.numbers.specs.Laws.Integers.{eqZ-true, eqZ-refl}
 use Rattle.diagram.specs.Accepted.{written, Accepted}
 use Rattle.diagram.specs.Records.{recordSize, records}
 use Rattle.diagram.specs.Build.{ofTable, nodeRoom, build, buildAnswer, buildBuffer, summaryOf}
 use Rattle.diagram.specs.Theorems.{build-answers, build-leaves}
 use Rattle.diagram.specs.Laws.Builds.{summary-length}
-use Rattle.diagram.specs.Laws.NodeRanges.{before-value, some-value, extreme-value}
-use Rattle.diagram.specs.Walk.{variableAt, lowAt, highAt, weightAt, leastAt, greatestAt, childFits, edgesFit, pathWeight, nodeValues, rangeFits, recordFits, recordCount, listFits, ofList, walk, walkValue}
+use Rattle.diagram.specs.Laws.NodeRanges.{least-test, greatest-test}
+use Rattle.diagram.specs.Walk.{variableAt, lowAt, highAt, weightAt, leastAt, greatestAt, childFits, edgesFit, nodeValues, rangeFits, recordFits, recordCount, listFits, ofList, walk, walkValue}
 use Rattle.demands.specs.Checks.{Check, AllHold, Decided}
-use Rattle.numbers.specs.Conditions.{Domain, LeastOver, GreatestOver}
 use Rattle.demands.specs.Admitted.{tableChecks, buildChecks, ListedChild, ListedRecord, RecordList, walkChecks}
 use Rattle.demands.specs.Laws.Checks.{decided-accepted, decided-unless, decided-map, answers-value, unless-only, accepted-only}
-use Rattle.numbers.specs.Laws.Tests.{le-test, lt-test, eq-test, less-test, same-test, at-most-test, and-test, or-test, between-test, variables-test, value-test, every-test, every-from-one}
+use Rattle.numbers.specs.Laws.Tests.{le-test, lt-test, eq-test, less-test, same-test, and-test, or-test, between-test, variables-test, value-test, every-test, every-from-one}
 
 -- The checks on a table, and what follows them.
 pub decided-table : {A : Type 0} (n : ℕ) (table : List ℤ) {rest : Answer A} {checks : List Check} → Decided rest checks → Decided (ofTable n table rest) (tableChecks n table ++ checks)
@@ -64,39 +61,6 @@ child-test list k child =
       (λ h. let r = i .0 h in record { earlier = r .0; lower = r .1 }),
       (λ r. i .1 (r .earlier, r .lower)),
     )
-
--- Its least and its greatest.
-least-test : (n : ℕ) (list : List ℤ) (k : ℕ) → (eqZ (leastAt list k) (leastOf (nodeValues n list k)) ≡ true) ↔ LeastOver (Domain n) (pathWeight list n k) (leastAt list k)
-least-test n list k = (
-  (λ h.
-      let e = eqZ-true (leastAt list k) (leastOf (nodeValues n list k)) h in
-      let m = some-value leasts n list k in
-      record {
-        under = λ x l. at-most-test (leastAt list k) (pathWeight list n k x) .0 (ap (λ z. leZ z (pathWeight list n k x)) e ∙ before-value leasts n list k x l);
-        met = (m .0, (m .1 .0, e ∙ m .1 .1));
-      }),
-  (λ r.
-      let m = r .met in
-      ap (eqZ (leastAt list k))
-      (extreme-value leasts n list k (leastAt list k) (m .0) (m .1 .0) (m .1 .1) (λ x l. at-most-test (leastAt list k) (pathWeight list n k x) .1 (r .under x l)))
-      ∙ eqZ-refl (leastAt list k)),
-)
-
-greatest-test : (n : ℕ) (list : List ℤ) (k : ℕ) → (eqZ (greatestAt list k) (greatestOf (nodeValues n list k)) ≡ true) ↔ GreatestOver (Domain n) (pathWeight list n k) (greatestAt list k)
-greatest-test n list k = (
-  (λ h.
-      let e = eqZ-true (greatestAt list k) (greatestOf (nodeValues n list k)) h in
-      let m = some-value greatests n list k in
-      record {
-        above = λ x l. at-most-test (pathWeight list n k x) (greatestAt list k) .0 (ap (leZ (pathWeight list n k x)) e ∙ before-value greatests n list k x l);
-        met = (m .0, (m .1 .0, e ∙ m .1 .1));
-      }),
-  (λ r.
-      let m = r .met in
-      ap (eqZ (greatestAt list k))
-      (extreme-value greatests n list k (greatestAt list k) (m .0) (m .1 .0) (m .1 .1) (λ x l. at-most-test (pathWeight list n k x) (greatestAt list k) .1 (r .above x l)))
-      ∙ eqZ-refl (greatestAt list k)),
-)
 
 -- A record.
 record-test : (n : ℕ) (list : List ℤ) (k : ℕ) → (recordFits n list k ≡ true) ↔ ListedRecord n list k

@@ -1,6 +1,7 @@
 -- Build's answer and buffer: refusals in their order, and the records of a table that passes.
 use Prim.Native.Nat.{ℕ, suc, _+_, _-_, _*_, _^_, _≤_, _<_}
 use mathlib.Core.Path.{_≡_, refl, sym, _∙_, ap, ap₂}
+use mathlib.Core.Logic.{_↔_}
 use mathlib.Core.List.{List, _++_, flatMap}
 use native.Mathlib.Numerals.{add-one}
 use native.Mathlib.Omega.{arith}
@@ -112,6 +113,9 @@ module _ (n : ℕ) (table : List ℤ) where
     -- The answer is the table's.
     pub build-summary : s ≡ summaryOf n table
     build-summary = let f : accepted (summaryOf n table) ≡ accepted s = sym (build-answered room (build-admits .0) (build-admits .1)) ∙ e in cc
+
+  pub build-accepts : (room : ℕ) → (Accepted n table × (nodeRoom n ≤ room)) ↔ ((s : Summary) × (buildAnswer n table room ≡ accepted s))
+  build-accepts room = ((λ a. (summaryOf n table, build-answered room (a .0) (a .1))), (λ s. build-admits room (s .0) (s .1)))
 
   -- ---- what its buffer then holds
 

@@ -1,13 +1,16 @@
 -- The checks on a record list: what passed them, what follows them, and Walk's answer after them.
 use Prim.Native.Nat.{ℕ, _^_, _≤_, _<_}
 use mathlib.Core.Path.{_≡_, _∙_, ap}
+use mathlib.Core.Bool.{false}
 use mathlib.Core.List.{List}
 use lib.IntN.{ℤ}
 use borrow.Author.Tests.{lt-ltb, le-ltb}
 use Rattle.numbers.specs.Answers.{Answer, accepted, refused, andThen}
+use Rattle.numbers.specs.Conditions.{Variables, TableValue}
 use Rattle.numbers.specs.Ranges.{isVariables, isValue}
 use Rattle.numbers.specs.Laws.Answers.{unless-accepted}
 use Rattle.numbers.specs.Laws.Bools.{yes-or-no}
+use Rattle.numbers.specs.Laws.Tests.{variables-test, value-test}
 use Rattle.diagram.specs.Walk.{listFits, ofList, walkValue, walk}
 use Rattle.diagram.specs.Inner.Checks.{listChecks}
 use Rattle.diagram.specs.Inner.Edges.{Passing}
@@ -37,6 +40,11 @@ module _ (n : ℕ) (offset : ℤ) (list : List ℤ) where
       let b = unless-accepted (isValue offset) 5 _ tt (a .1) in
       let c = unless-accepted (listFits n list) 6 _ tt (b .1) in
       record { variables = a .0; start = b .0; records = c .0 }
+
+  -- Walk refuses a list that fails its check for that at every X, one past the table too.
+  pub list-before-x : Variables n → TableValue offset → listFits n list ≡ false → (x : ℕ) → walk n offset list x ≡ refused 6
+  unfolding walk ofList
+  list-before-x inside ranged unfit x = rw (variables-test n .1 inside, value-test offset .1 ranged, unfit)
 
   -- Walk after its checks: 7, or the value.
   pub walk-outside : (x : ℕ) → Passing n offset list → 2 ^ n ≤ x → walk n offset list x ≡ refused 7

@@ -1,6 +1,8 @@
--- The range of a node's function: 0 for the terminal, for a record by its children's, and within 32 bits.
+-- The range of a node's function: 0 for the terminal, for a record by its children's, as the least and the greatest over the domain, and
+-- within 32 bits.
 use Prim.Native.Nat.{ℕ, zero, suc, _+_, _-_, _*_, _%_, _^_, _≤_, _<_}
 use mathlib.Core.Path.{_≡_, refl, sym, _∙_, ap, ap₂}
+use mathlib.Core.Logic.{_↔_, Iff·trans}
 use mathlib.Core.Bool.{Bool, true, false, _&&_}
 use mathlib.Core.List.{List}
 use native.Mathlib.Nat.{mod-lt, mod-eq-of-lt, mul-add-mod-self-right, one-mul, zero-add, two-pow-succ}
@@ -10,14 +12,17 @@ use lib.Pow.{pow-pos, pow-mono}
 use lib.IntN.{ℤ, pos, natAbs, _+ℤ_}
 use lib.Signed.{mag, ltZ}
 use borrow.Author.Tests.{ltb-true}
+use Rattle.numbers.specs.Conditions.{Domain, LeastOver, GreatestOver, Signed32}
 use Rattle.numbers.specs.Extremes.{leastOf, greatestOf}
 use Rattle.numbers.specs.Lists.{numbersFrom}
 use Rattle.numbers.specs.Ranges.{eqZ, lesser, greater}
 use Rattle.numbers.specs.Laws.Bools.{yes-or-no, both, and-both}
-use Rattle.numbers.specs.Laws.Extremal.{Extreme, leasts, greatests, extreme-is}
+use Rattle.numbers.specs.Laws.Bounds.{signed-32-of-mag}
+use Rattle.numbers.specs.Laws.Extremal.{Extreme, leasts, greatests, extreme-is, FirstOver, first-is-least, first-is-greatest}
 use Rattle.numbers.specs.Laws.Integers.{eqZ-true, eqZ-refl}
 use Rattle.numbers.specs.Laws.Lists.{length-range, getD-range, getD-map}
 use Rattle.numbers.specs.Laws.Machine.{mag-add}
+use Rattle.numbers.specs.Laws.Tests.{same-test, signed-32-test}
 use Rattle.diagram.specs.Walk.{variableAt, lowAt, highAt, weightAt, leastAt, greatestAt, childFits, edgesFit, bitSet, pathWeight, nodeValues, rangeFits, recordFits, recordCount}
 use Rattle.diagram.specs.Inner.Edges.{Walkable, rangeAt, rangeBy, rangeFrom, rangeFollows, EarlierPass, edgeAt}
 use Rattle.diagram.specs.Laws.Checks.{EdgeParts, counted, child-within, child-node, child-record, parts-of-edges, edges-of-record, range-of-record, range-left}
@@ -49,12 +54,21 @@ module _ {le : ℤ → ℤ → Bool} {pick : ℤ → ℤ → ℤ} {of : List ℤ
       let h : m .0 < 2 ^ n = rw values-length at (m .1 .0) in
       (m .0, (h, m .1 .1 ∙ value-at n list k (m .0) h))
 
-  -- A value that comes before every one is it.
-  pub extreme-value : (k : ℕ) (z : ℤ) (x : ℕ) → x < 2 ^ n → z ≡ pathWeight list n k x → ((y : ℕ) → y < 2 ^ n → le z (pathWeight list n k y) ≡ true) → of (nodeValues n list k) ≡ z
-  extreme-value k z x h p f =
-      extreme-is e (nodeValues n list k) z x (rw values-length h) (p ∙ sym (value-at n list k x h)) (λ y l.
-      let inside : y < 2 ^ n = rw values-length at l in
-      ap (le z) (value-at n list k y inside) ∙ f y inside)
+  -- A number is it exactly where it is the first over the domain.
+  pub extreme-over : (k : ℕ) (z : ℤ) → (z ≡ of (nodeValues n list k)) ↔ FirstOver le (Domain n) (pathWeight list n k) z
+  extreme-over k z = (
+    (λ p.
+        let m = some-value k in
+        record {
+          before = λ x h. ap (λ y. le y (pathWeight list n k x)) p ∙ before-value k x h;
+          met = (m .0, (m .1 .0, p ∙ m .1 .1));
+        }),
+    (λ r.
+        let m = r .met in
+        sym (extreme-is e (nodeValues n list k) z (m .0) (rw values-length (m .1 .0)) (m .1 .1 ∙ sym (value-at n list k (m .0) (m .1 .0))) (λ y l.
+        let inside : y < 2 ^ n = rw values-length at l in
+        ap (le z) (value-at n list k y inside) ∙ r .before y inside))),
+  )
 
   -- The terminal's is 0.
   pub terminal-extreme : of (nodeValues n list 0) ≡ pos 0
@@ -150,12 +164,39 @@ unfolding rangeAt
 range-record list zero h = absurd (omega arith)
 range-record list (suc k) h = refl
 
--- The numbers of a record that passes are true.
-pub passing-range : (n : ℕ) (list : List ℤ) (k : ℕ) → recordFits n list k ≡ true → (leastAt list k ≡ leastOf (nodeValues n list k)) × (greatestAt list k ≡ greatestOf (nodeValues n list k))
-unfolding rangeFits
-passing-range n list k fits =
-    let r = both (eqZ (leastAt list k) (leastOf (nodeValues n list k))) (eqZ (greatestAt list k) (greatestOf (nodeValues n list k))) (range-of-record n list k fits) in
-    (eqZ-true (leastAt list k) (leastOf (nodeValues n list k)) (r .0), eqZ-true (greatestAt list k) (greatestOf (nodeValues n list k)) (r .1))
+module _ (n : ℕ) (list : List ℤ) (k : ℕ) where
+  -- Its last two numbers as tests, and as the least and the greatest of its function.
+  least-over : (leastAt list k ≡ leastOf (nodeValues n list k)) ↔ LeastOver (Domain n) (pathWeight list n k) (leastAt list k)
+  least-over = Iff·trans (extreme-over leasts n list k (leastAt list k)) (first-is-least (Domain n) (pathWeight list n k) (leastAt list k))
+
+  greatest-over : (greatestAt list k ≡ greatestOf (nodeValues n list k)) ↔ GreatestOver (Domain n) (pathWeight list n k) (greatestAt list k)
+  greatest-over = Iff·trans (extreme-over greatests n list k (greatestAt list k)) (first-is-greatest (Domain n) (pathWeight list n k) (greatestAt list k))
+
+  pub least-test : (eqZ (leastAt list k) (leastOf (nodeValues n list k)) ≡ true) ↔ LeastOver (Domain n) (pathWeight list n k) (leastAt list k)
+  least-test = Iff·trans (same-test (leastAt list k) (leastOf (nodeValues n list k))) least-over
+
+  pub greatest-test : (eqZ (greatestAt list k) (greatestOf (nodeValues n list k)) ≡ true) ↔ GreatestOver (Domain n) (pathWeight list n k) (greatestAt list k)
+  greatest-test = Iff·trans (same-test (greatestAt list k) (greatestOf (nodeValues n list k))) greatest-over
+
+  -- The numbers of a record that passes are true.
+  passing-range : recordFits n list k ≡ true → (leastAt list k ≡ leastOf (nodeValues n list k)) × (greatestAt list k ≡ greatestOf (nodeValues n list k))
+  unfolding rangeFits
+  passing-range fits =
+      let r = both (eqZ (leastAt list k) (leastOf (nodeValues n list k))) (eqZ (greatestAt list k) (greatestOf (nodeValues n list k))) (range-of-record n list k fits) in
+      (eqZ-true (leastAt list k) (leastOf (nodeValues n list k)) (r .0), eqZ-true (greatestAt list k) (greatestOf (nodeValues n list k)) (r .1))
+
+  pub passing-least : recordFits n list k ≡ true → LeastOver (Domain n) (pathWeight list n k) (leastAt list k)
+  passing-least fits = least-over .0 (passing-range fits .0)
+
+  pub passing-greatest : recordFits n list k ≡ true → GreatestOver (Domain n) (pathWeight list n k) (greatestAt list k)
+  passing-greatest fits = greatest-over .0 (passing-range fits .1)
+
+  -- True numbers of fitting edges pass.
+  pub true-range-passes : edgesFit n list k ≡ true → LeastOver (Domain n) (pathWeight list n k) (leastAt list k) → GreatestOver (Domain n) (pathWeight list n k) (greatestAt list k) → recordFits n list k ≡ true
+  unfolding rangeFits
+  true-range-passes fits low high =
+      range-left n list k fits
+      ∙ and-both (eqZ (leastAt list k) (leastOf (nodeValues n list k))) (eqZ (greatestAt list k) (greatestOf (nodeValues n list k))) (least-test .1 low) (greatest-test .1 high)
 
 -- The path from a node of walkable records stays small.
 pub path-small : (list : List ℤ) (i k x : ℕ) → ((m : ℕ) → m ≤ k → Walkable list m) → mag (pathWeight list i k x) ≤ i * 16777216
@@ -227,30 +268,20 @@ module _ (n : ℕ) (list : List ℤ) (k : ℕ) (earlier : EarlierPass n list k) 
         (ap₂ (λ l h. lesser l (weightAt list k +ℤ h)) (a .0) (b .0) ∙ sym (by-numbers leasts some))
         (ap₂ (λ l h. greater l (weightAt list k +ℤ h)) (a .1) (b .1) ∙ sym (by-numbers greatests some))
 
--- ---- lists that pass
+-- ---- lists whose edges fit
 
-module _ (n : ℕ) (list : List ℤ) where
-  -- True numbers of fitting edges pass.
-  pub true-range-passes : (k : ℕ) → edgesFit n list k ≡ true → leastAt list k ≡ leastOf (nodeValues n list k) → greatestAt list k ≡ greatestOf (nodeValues n list k) → recordFits n list k ≡ true
-  unfolding rangeFits
-  true-range-passes k fits low high =
-      range-left n list k fits
-      ∙ and-both (eqZ (leastAt list k) (leastOf (nodeValues n list k))) (eqZ (greatestAt list k) (greatestOf (nodeValues n list k)))
-      (ap (λ z. eqZ z (leastOf (nodeValues n list k))) low ∙ eqZ-refl (leastOf (nodeValues n list k)))
-      (ap (λ z. eqZ z (greatestOf (nodeValues n list k))) high ∙ eqZ-refl (greatestOf (nodeValues n list k)))
+module _ (n : ℕ) (list : List ℤ) (edges : (k : ℕ) → 1 ≤ k → k ≤ recordCount list → edgesFit n list k ≡ true) where
+  -- Every node may be walked from.
+  fitting-walkable : (k : ℕ) → k ≤ recordCount list → Walkable list k
+  fitting-walkable k l = record {
+    known = l;
+    low = λ one. parts-of-edges n list k (edges k one l) .low;
+    high = λ one. parts-of-edges n list k (edges k one l) .high;
+    weight = λ one. parts-of-edges n list k (edges k one l) .weight;
+  }
 
-  -- Where all edges fit, every node may be walked from, and its range is small.
-  module _ (edges : (k : ℕ) → 1 ≤ k → k ≤ recordCount list → edgesFit n list k ≡ true) where
-    fitting-walkable : (k : ℕ) → k ≤ recordCount list → Walkable list k
-    fitting-walkable k l = record {
-      known = l;
-      low = λ one. parts-of-edges n list k (edges k one l) .low;
-      high = λ one. parts-of-edges n list k (edges k one l) .high;
-      weight = λ one. parts-of-edges n list k (edges k one l) .weight;
-    }
-
-    pub fitting-small : {le : ℤ → ℤ → Bool} {pick : ℤ → ℤ → ℤ} {of : List ℤ → ℤ} → Extreme le pick of → n ≤ 12 → (k : ℕ) → k ≤ recordCount list → mag (of (nodeValues n list k)) ≤ 201326592
-    fitting-small e v k l =
-        let m = some-value e n list k in
-        let p = path-small list n k (m .0) (λ j b. fitting-walkable j (omega arith)) in
-        rw (m .1 .1) (omega arith)
+  -- So a value of its function is small.
+  pub fitting-small : n ≤ 12 → (k : ℕ) → k ≤ recordCount list → (x : ℕ) → Signed32 (pathWeight list n k x)
+  fitting-small v k l x =
+      let p = path-small list n k x (λ j b. fitting-walkable j (omega arith)) in
+      signed-32-test (pathWeight list n k x) .0 (signed-32-of-mag (pathWeight list n k x) (omega arith))

@@ -89,6 +89,9 @@ module _ (n : ℕ) (table : List ℤ) where
       let r = below-room n (omega arith) in
       omega (arith, records-count, pow-pos (n - n))
 
+  pub records-at-most : length (records n table) ≤ 2 ^ n - 1
+  records-at-most = let r = records-room in omega arith
+
   -- ---- which one has a number
 
   -- Number m, from 1, is that of record k of variable height, which is below i.

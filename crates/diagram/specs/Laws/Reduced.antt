@@ -15,10 +15,11 @@ use Rattle.numbers.specs.Laws.Powers.{power-split}
 use Rattle.blocks.specs.Blocks.{block, first, lowerHalf, upperHalf, differences}
 use Rattle.blocks.specs.Laws.Differences.{length-differences, differences-at}
 use Rattle.diagram.specs.Records.{node, records}
-use Rattle.diagram.specs.Walk.{lowAt, highAt, weightAt, pathWeight}
+use Rattle.diagram.specs.Walk.{variableAt, lowAt, highAt, weightAt, pathWeight}
 use Rattle.diagram.specs.Accepted.{written, nodeFunction}
 use Rattle.diagram.specs.Laws.Alike.{whole-length, block-like}
-use Rattle.diagram.specs.Laws.Nodes.{same-node, node-below}
+use Rattle.diagram.specs.Laws.Nodes.{same-node, node-below, root-last}
+use Rattle.diagram.specs.Laws.Numbering.{records-count}
 use Rattle.diagram.specs.Laws.Paths.{numbered-below, block-path}
 use Rattle.diagram.specs.Laws.RecordBlocks.{RecordBlock, blockOf, record-block, height-within, lower-like, upper-like, halves-differ}
 use Rattle.diagram.specs.Laws.Steps.{path-terminal, path-from-above}
@@ -54,8 +55,8 @@ module _ (n : ℕ) (table : List ℤ) (size : length table ≡ 2 ^ n) where
       ∙ block-path n table size i (block table i j) x h b
 
   -- They are the block's differences.
-  pub block-differences : (i j x : ℕ) → i ≤ n → j < 2 ^ (n - i) → nodeFunction n table (node n table i (block table i j)) x ≡ getD (differences (block table i j)) (x % 2 ^ i) (pos 0)
-  block-differences i j x h l =
+  pub block-differences : (i j : ℕ) → i ≤ n → j < 2 ^ (n - i) → (x : ℕ) → nodeFunction n table (node n table i (block table i j)) x ≡ getD (differences (block table i j)) (x % 2 ^ i) (pos 0)
+  block-differences i j h l x =
       block-values i j x h l
       ∙ sym (differences-at (block table i j) (x % 2 ^ i) (let m = mod-lt x (pow-pos i) in omega (arith, whole-length n table size i j h l)))
 
@@ -67,12 +68,23 @@ module _ (n : ℕ) (table : List ℤ) (size : length table ≡ 2 ^ n) where
   -- They are the differences of its block.
   pub record-differences : (m x : ℕ) (r : RecordBlock n table m) → nodeFunction n table m x ≡ getD (differences (blockOf r)) (x % 2 ^ suc (r .height)) (pos 0)
   record-differences m x r =
-      ap (λ k. nodeFunction n table k x) (sym (r .number)) ∙ block-differences (suc (r .height)) (r .place) x (r .lower) (r .inside)
+      ap (λ k. nodeFunction n table k x) (sym (r .number)) ∙ block-differences (suc (r .height)) (r .place) (r .lower) (r .inside) x
+
+  pub record-has-block : (k : ℕ) → 1 ≤ k → k ≤ length (records n table)
+      → (i : ℕ) × (j : ℕ) × (i < n) × (j < 2 ^ (n - suc i)) × (variableAt (written n table) k ≡ pos i)
+      × ((x : ℕ) → nodeFunction n table k x ≡ getD (differences (block table (suc i) j)) (x % 2 ^ suc i) (pos 0))
+  record-has-block k h l =
+      let r = record-block n table size k h l in
+      (r .height, r .place, r .lower, r .inside, r .stands .variable, λ x. record-differences k x r)
+
+  -- The node of the whole table is the last.
+  pub root-is-last : node n table n table ≡ length (records n table)
+  root-is-last = root-last n table size ∙ sym (records-count n table)
 
   -- ---- no record is redundant
 
   -- Equal children and weight 0 would make the block's halves equal.
-  pub not-redundant : (m : ℕ) → RecordBlock n table m → lowAt (written n table) m ≡ highAt (written n table) m → weightAt (written n table) m ≡ pos 0 → ⊥
+  not-redundant : (m : ℕ) → RecordBlock n table m → lowAt (written n table) m ≡ highAt (written n table) m → weightAt (written n table) m ≡ pos 0 → ⊥
   not-redundant m r children weightless =
       halves-differ n table size r (λ y l. sub-cancel (getD lower y (pos 0)) (getD upper y (pos 0)) (first upper) (at-place y l))
     where
@@ -98,6 +110,9 @@ module _ (n : ℕ) (table : List ℤ) (size : length table ≡ 2 ^ n) where
           ∙ ap (λ k. pathWeight (written n table) i k y) same-child
           ∙ block-path n table size i upper y (height-within n table size r) (upper-like n table size r)
           ∙ ap (λ p. getD upper p (pos 0) -ℤ first upper) (mod-eq-of-lt l)
+
+  pub no-redundant-record : (k : ℕ) → 1 ≤ k → k ≤ length (records n table) → ¬ ((lowAt (written n table) k ≡ highAt (written n table) k) × (weightAt (written n table) k ≡ pos 0))
+  no-redundant-record k h l both = not-redundant k (record-block n table size k h l) (both .0) (both .1)
 
   -- ---- no two nodes stand for one function
 

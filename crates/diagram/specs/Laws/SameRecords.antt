@@ -1,11 +1,13 @@
 -- Tables of equal records: those that differ by one constant, and no others.
 use Prim.Native.Nat.{ℕ, zero, suc, _+_, _-_, _*_, _^_, _<_}
 use mathlib.Core.Path.{_≡_, refl, sym, _∙_, ap, ap₂}
-use mathlib.Core.List.{List, map}
+use mathlib.Core.Logic.{_↔_}
+use mathlib.Core.List.{List, map, flatMap}
 use native.Mathlib.Omega.{arith}
 use lib.ListN.{length, getD, take, drop, length-map}
 use lib.Seq.{ext-getD}
 use lib.IntN.{ℤ, pos, negℤ, _+ℤ_, _-ℤ_, +ℤ-assoc, +ℤ-comm}
+use Rattle.numbers.specs.Answers.{accepted}
 use Rattle.numbers.specs.Extremes.{leastOf, greatestOf}
 use Rattle.numbers.specs.Lists.{numbersFrom, keep}
 use Rattle.numbers.specs.Laws.Bools.{yes-or-no}
@@ -15,9 +17,11 @@ use Rattle.numbers.specs.Laws.Selections.{keep-unseen, flatMap-same}
 use Rattle.blocks.specs.Blocks.{block, blocks, first, lowerHalf, upperHalf, differences}
 use Rattle.blocks.specs.Classes.{numberIn, distinct}
 use Rattle.blocks.specs.Laws.Differences.{differences-more}
-use Rattle.diagram.specs.Records.{branches, kinds, recordsBelow, node, Record, recordOf, recordsAt, records}
+use Rattle.diagram.specs.Build.{Summary, buildAnswer, buildBuffer, recordPart}
+use Rattle.diagram.specs.Records.{branches, kinds, recordsBelow, node, Record, recordOf, recordsAt, records, recordNumbers, nodeCount}
 use Rattle.diagram.specs.Walk.{pathWeight, recordCount}
-use Rattle.diagram.specs.Accepted.{written}
+use Rattle.diagram.specs.Accepted.{Accepted, written}
+use Rattle.diagram.specs.Laws.Builds.{build-admits, build-summary, build-records}
 use Rattle.diagram.specs.Laws.Nodes.{node-branching, node-passing}
 use Rattle.diagram.specs.Laws.Shifts.{shift, branches-shift}
 use Rattle.diagram.specs.Laws.Walks.{root-path}
@@ -112,3 +116,33 @@ same-records n left right sl sr e =
   where
     c : ℤ
     c = first right -ℤ first left
+
+-- ---- equal records exactly where a constant is the difference
+
+pub equal-records : (n : ℕ) (f g : List ℤ) → Accepted n f → Accepted n g → (records n f ≡ records n g) ↔ ((c : ℤ) × (g ≡ map (λ v. v +ℤ c) f))
+equal-records n f g a b = (
+  (λ e. (first g -ℤ first f, same-records n f g (a .size) (b .size) (ap (flatMap recordNumbers) e))),
+  (λ d. sym (ap (records n) (d .1) ∙ records-shift n (d .0) f)),
+)
+
+-- So it is with what Build left in two buffers.
+module _ (n : ℕ) (f g buffer buffer′ : List ℤ) (s t : Summary) (built-f : buildAnswer n f (length buffer) ≡ accepted s) (built-g : buildAnswer n g (length buffer′) ≡ accepted t) where
+  pub equal-builds : (recordPart (s .nodes) (buildBuffer n f buffer) ≡ recordPart (t .nodes) (buildBuffer n g buffer′)) ↔ ((c : ℤ) × (g ≡ map (λ v. v +ℤ c) f))
+  equal-builds = (
+    (λ e. (
+      first g -ℤ first f,
+      same-records n f g (build-admits n f (length buffer) s built-f .0 .size) (build-admits n g (length buffer′) t built-g .0 .size)
+          (sym (build-records n f buffer s built-f) ∙ e ∙ build-records n g buffer′ t built-g),
+    )),
+    (λ d.
+        build-records n f buffer s built-f
+        ∙ sym (build-records n g buffer′ t built-g ∙ ap (written n) (d .1) ∙ ap (flatMap recordNumbers) (records-shift n (d .0) f))),
+  )
+
+  -- Then the node counts are equal.
+  pub equal-counts : ((c : ℤ) × (g ≡ map (λ v. v +ℤ c) f)) → s .nodes ≡ t .nodes
+  unfolding nodeCount
+  equal-counts d =
+      ap (λ u. u .nodes) (build-summary n f (length buffer) s built-f)
+      ∙ ap (λ rs. suc (length rs)) (sym (ap (records n) (d .1) ∙ records-shift n (d .0) f))
+      ∙ sym (ap (λ u. u .nodes) (build-summary n g (length buffer′) t built-g))

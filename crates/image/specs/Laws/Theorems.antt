@@ -7,7 +7,8 @@ use lib.ListN.{length, getD}
 use lib.IntN.{ℤ, pos}
 use lib.Signed.{ltZ}
 use Rattle.numbers.specs.Answers.{accepted, refused}
-use Rattle.numbers.specs.Theorems.{unsigned-spares-one, signed-stays}
+use Rattle.numbers.specs.Laws.Tests.{less-test, not-less-test}
+use Rattle.numbers.specs.Laws.WeightWidth.{unsigned-spares-one, signed-stays}
 use Rattle.numbers.specs.Widths.{weightWidth}
 use Rattle.operands.specs.Bytes.{AreBytes}
 use Rattle.image.specs.Cells.{Cell, Card}
@@ -66,11 +67,11 @@ module _ (cell : Cell) where
 
   pub older-width-same : (i : ℕ) → i < length own → ltZ (getD own i (pos 0)) (pos 0) ≡ true → olderWidth cell ≡ weightWidth own
   unfolding olderWidth
-  older-width-same i inside negative = sym (signed-stays own i inside negative)
+  older-width-same i inside negative = sym (signed-stays own i inside (less-test (getD own i (pos 0)) (pos 0) .0 negative))
 
   pub older-width-one-more : ((j : ℕ) → j < length own → ltZ (getD own j (pos 0)) (pos 0) ≡ false) → (weightWidth own ≡ 0 → ⊥) → olderWidth cell ≡ suc (weightWidth own)
   unfolding olderWidth
-  older-width-one-more plain some = unsigned-spares-one own plain some
+  older-width-one-more plain some = unsigned-spares-one own (λ j l. not-less-test (getD own j (pos 0)) (pos 0) .0 (plain j l)) some
 
 -- One in which none has is the card's own image.
 pub older-image-stays : (card : Card) → ((before : List Cell) (cell : Cell) (after : List Cell) → card .cells ≡ before ++ cell ∷ after → olderWidth cell ≡ cell .width) → imageOf (olderCard card) ≡ imageOf card

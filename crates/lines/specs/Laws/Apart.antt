@@ -1,17 +1,19 @@
 -- A text taken apart into its lines and their fields.
-use Prim.Native.Nat.{ℕ, suc, _≤_}
+use Prim.Native.Nat.{ℕ, suc, _≤_, _<_}
 use mathlib.Core.Path.{_≡_, refl, sym, _∙_, ap, ap₂}
+use mathlib.Core.Logic.{_↔_}
 use mathlib.Core.Bool.{Bool, true, false}
 use mathlib.Core.List.{List, [], _∷_, _++_, map, flatMap, append-assoc, append-nil}
 use native.Mathlib.Omega.{arith}
-use lib.ListN.{length}
+use lib.ListN.{length, getD}
 use lib.Dec.{leb, ltb, eqb}
 use lib.IntN.{ℤ, pos, negsuc}
 use borrow.Author.Tests.{leb-true, ltb-true, lt-ltb, eq-eqb, ne-eqb}
 use Rattle.numbers.specs.Lists.{every}
 use Rattle.numbers.specs.Laws.Bools.{yes-or-no, both, and-both}
+use Rattle.numbers.specs.Laws.Tests.{lt-test, every-test}
 use Rattle.lines.specs.Text.{decimal, fields}
-use Rattle.lines.specs.Reading.{isDigit, readDecimal, inFront, pieces, Line, isPlain, lineText, lineOf, readLine, ended, readLines}
+use Rattle.lines.specs.Reading.{isDigit, readDecimal, inFront, pieces, Line, isPlain, Plain, emptyLine, lineText, lineOf, readLine, ended, readLines}
 use Rattle.lines.specs.Inner.Writing.{field}
 use Rattle.lines.specs.Laws.Decimals.{digits-alone, decimal-back, decimal-negative}
 use Rattle.lines.specs.Laws.Pieces.{field-pieces}
@@ -131,7 +133,15 @@ lines-none : readLines [] ≡ []
 unfolding readLines ended pieces
 lines-none = refl
 
+-- All lines of a text.
 pub lines-back : (ls : List Line) → every isPlain ls ≡ true → readLines (flatMap lineText ls) ≡ ls
 unfolding flatMap every isPlain
 lines-back [] h = lines-none
 lines-back (l ∷ ls) h = let b = both (isPlain l) (every isPlain ls) h in line-first l (b .0) (flatMap lineText ls) ∙ ap (λ more. l ∷ more) (lines-back ls (b .1))
+
+plain-test : (l : Line) → (isPlain l ≡ true) ↔ Plain l
+unfolding isPlain
+plain-test l = every-test (ltb 32) (l .word) 0 (lt-test 32)
+
+pub plain-lines-back : (ls : List Line) → ((j : ℕ) → j < length ls → Plain (getD ls j emptyLine)) → readLines (flatMap lineText ls) ≡ ls
+plain-lines-back ls plain = lines-back ls (every-test isPlain ls emptyLine plain-test .1 plain)

@@ -1,15 +1,18 @@
 -- Decimals: digit by digit, read back, and how long they are at most.
 use Prim.Native.Nat.{ℕ, zero, suc, _+_, _-_, _*_, _/_, _%_, _^_, _≤_, _<_}
 use mathlib.Core.Path.{_≡_, refl, sym, _∙_, ap}
+use mathlib.Core.Logic.{_↔_}
 use mathlib.Core.Bool.{Bool, true}
 use mathlib.Core.List.{List, [], _∷_, _++_}
+use native.Mathlib.Numerals.{add-one}
 use native.Mathlib.Omega.{arith}
-use lib.ListN.{length, length-append}
+use lib.ListN.{length, getD, length-append}
 use lib.Dec.{leb, ltb}
 use lib.IntN.{ℤ, pos, negsuc, negℤ}
 use borrow.Author.Tests.{lt-ltb, le-ltb, ltb-true, ltb-false, le-leb, leb-true, ne-eqb}
 use Rattle.numbers.specs.Lists.{every}
 use Rattle.numbers.specs.Laws.Bools.{yes-or-no, both, and-both}
+use Rattle.numbers.specs.Laws.Tests.{le-test, and-test, every-test}
 use Rattle.lines.specs.Reading.{isDigit, readDigits, readDecimal}
 use Rattle.lines.specs.Text.{decimalDigits, decimal}
 
@@ -105,6 +108,14 @@ digits-alone = by-digits (λ number. every isDigit (decimal (pos number)) ≡ tr
     step : (number : ℕ) → 10 ≤ number → every isDigit (decimal (pos (number / 10))) ≡ true → every isDigit (decimal (pos number)) ≡ true
     step number l before = ap (every isDigit) (decimal-step number l) ∙ every-last isDigit (decimal (pos (number / 10))) (48 + number % 10) before (digit (number % 10) (omega arith))
 
+-- Byte by byte, behind a minus sign where it is negative.
+digit-test : (byte : ℕ) → (isDigit byte ≡ true) ↔ ((48 ≤ byte) × (byte ≤ 57))
+unfolding isDigit
+digit-test byte = and-test (leb 48 byte) (leb byte 57) (le-test 48 byte) (le-test byte 57)
+
+pub number-in-digits : (number : ℕ) → ((j : ℕ) → j < length (decimal (pos number)) → (48 ≤ getD (decimal (pos number)) j 0) × (getD (decimal (pos number)) j 0 ≤ 57)) × (decimal (negsuc number) ≡ 45 ∷ decimal (pos (number + 1)))
+number-in-digits number = (every-test isDigit (decimal (pos number)) 0 digit-test .0 (digits-alone number), rw add-one (decimal-negative number))
+
 -- Digits alone have no sign.
 unsigned-read : (l : List ℕ) → every isDigit l ≡ true → readDecimal l ≡ pos (readDigits 0 l)
 unfolding readDecimal readDigits every isDigit
@@ -134,3 +145,7 @@ decimal-length (suc k) number l =
     (λ large.
     let before = decimal-length k (number / 10) (omega arith) in
     rw (decimal-step number (ltb-false number 10 large), length-append) (omega arith))
+
+pub number-no-longer : (k number : ℕ) → 1 ≤ k → number < 10 ^ k → length (decimal (pos number)) ≤ k
+number-no-longer zero number one l = absurd (omega arith)
+number-no-longer (suc k) number one l = decimal-length k number l

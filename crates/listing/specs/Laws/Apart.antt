@@ -12,7 +12,7 @@ use Rattle.image.specs.Cells.{Cell, totalBits}
 use Rattle.cascade.specs.Cascade.{cellsFrom}
 use Rattle.lines.specs.Text.{ascii, line}
 use Rattle.lines.specs.Reading.{Line, isPlain, lineText, readLines}
-use Rattle.lines.specs.Theorems.{lines-read-back}
+use Rattle.lines.specs.Laws.Apart.{lines-back}
 use Rattle.listing.specs.Listing.{nodeLine, nodeLines, cellLine, tableText}
 use Rattle.listing.specs.Lines.{lineWith, recordEntries, cellEntry, tableLines}
 
@@ -88,4 +88,4 @@ module _ (n : ℕ) (table : List ℤ) (sizes : List ℕ) where
   lines-plain = every-both (recordEntries 1 (records n table)) below (records-plain 1 (records n table)) (every-both (map cellEntry cells) (total ∷ []) (cells-plain cells) refl)
 
   pub text-apart : readLines (tableText n table sizes) ≡ tableLines n table sizes
-  text-apart = ap readLines text-lines ∙ lines-read-back (tableLines n table sizes) lines-plain
+  text-apart = ap readLines text-lines ∙ lines-back (tableLines n table sizes) lines-plain

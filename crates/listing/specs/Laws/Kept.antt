@@ -9,7 +9,7 @@ use lib.Dec.{leb}
 use borrow.Author.Tests.{le-leb}
 use Rattle.listing.specs.Listing.{listing}
 use Rattle.listing.specs.Program.{textRoom, listAnswer, listBuffer, Lists}
-use Rattle.listing.specs.Theorems.{bytes-beyond}
+use Rattle.listing.specs.Laws.Listed.{bytes-beyond}
 use Rattle.listing.specs.declared.Listed.{Listed}
 use Rattle.listing.specs.declared.Listed.the-variants.{Text, TooShort}
 use Rattle.listing.specs.Kept.{keptBytes}

@@ -1,14 +1,16 @@
 -- What is listed: the image always has room, so the answer is Plan's after the checks on the input's bytes.
 use Prim.Native.Nat.{ℕ, _+_, _-_, _*_, _/_, _^_, _≤_, _<_}
 use mathlib.Core.Path.{_≡_, refl, sym, _∙_, ap}
+use mathlib.Core.Logic.{_↔_}
 use mathlib.Core.Bool.{Bool, true, false}
 use mathlib.Core.List.{List, [], _∷_}
 use native.Mathlib.Omega.{arith}
-use lib.ListN.{length, getD, length-map}
+use lib.ListN.{length, getD, take, length-map}
+use lib.Seq.{length-take-le, take-all, getD-take}
 use lib.Dec.{leb, eqb}
 use lib.Pow.{pow-mono}
 use lib.IntN.{ℤ, pos}
-use borrow.Author.Tests.{leb-true, le-leb, lt-leb, eqb-true, eq-eqb, ne-eqb}
+use borrow.Author.Tests.{leb-true, leb-false, le-leb, lt-leb, eqb-true, eq-eqb, ne-eqb}
 use Rattle.numbers.specs.Answers.{Answer, accepted, refused, unless, andThen}
 use Rattle.numbers.specs.Lists.{numbersFrom, every}
 use Rattle.numbers.specs.Ranges.{mostVariables, isVariables, isLimit, isValue}
@@ -35,6 +37,9 @@ listed-range n h = let b = both (leb 1 n) (leb n 11) h in (leb-true 1 n (b .0), 
 pub range-listed : (n : ℕ) → 1 ≤ n → n ≤ 11 → isListed n ≡ true
 unfolding isListed mostListed
 range-listed n some few = and-both (leb 1 n) (leb n 11) (le-leb 1 n some) (le-leb n 11 few)
+
+pub variables-listed : (n : ℕ) → ((1 ≤ n) × (n ≤ 11)) ↔ (isListed n ≡ true)
+variables-listed n = ((λ range. range-listed n (range .0) (range .1)), listed-range n)
 
 -- Compile takes it.
 listed-is-variables : (n : ℕ) → isListed n ≡ true → isVariables n ≡ true
@@ -126,6 +131,9 @@ module _ (input : List ℕ) where
       first-check : (b : Bool) (number : ℕ) (rest : Answer (List ℕ)) → number ≤ 9 → ((k : ℕ) → rest ≡ refused k → k ≤ 9) → (k : ℕ) → unless b number rest ≡ refused k → k ≤ 9
       first-check = unless-refused (λ k. k ≤ 9)
 
+  pub never-ten : ¬ (listed input ≡ refused 10)
+  never-ten e = let nine = listed-refused 10 e in omega arith
+
   -- A refusal's line.
   pub refusal-listed : (k : ℕ) → listed input ≡ refused k → listing input ≡ line "refused" (pos k ∷ [])
   unfolding listing answerText
@@ -155,3 +163,17 @@ listed-too-long input shorter long less same =
       ),
     ))
     (λ outside. (1, (listed-outside input (omega arith) outside, listed-outside shorter (omega arith) (ap isListed same ∙ outside))))
+
+-- So one byte more than the longest admitted input has is enough to tell what is printed.
+pub bytes-beyond : (input : List ℕ) → listing (take (3 + 4 * 2 ^ 11) input) ≡ listing input
+bytes-beyond input =
+    yes-or-no (leb (length input) (3 + 4 * 2 ^ 11))
+    (λ short. ap listing (take-all (3 + 4 * 2 ^ 11) input (leb-true (length input) (3 + 4 * 2 ^ 11) short)))
+    (λ long.
+    let l = leb-false (length input) (3 + 4 * 2 ^ 11) long in
+    let less = length-take-le (3 + 4 * 2 ^ 11) input (omega arith) in
+    let refusals = listed-too-long input shorter (omega arith) (omega arith) (getD-take (3 + 4 * 2 ^ 11) input 0 0 (omega arith)) in
+    refusal-listed shorter (refusals .0) (refusals .1 .1) ∙ sym (refusal-listed input (refusals .0) (refusals .1 .0)))
+  where
+    shorter : List ℕ
+    shorter = take (3 + 4 * 2 ^ 11) input

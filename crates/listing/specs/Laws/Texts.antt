@@ -15,8 +15,7 @@ use Rattle.numbers.specs.Laws.Answers.{not-refused}
 use Rattle.diagram.specs.Accepted.{Accepted, written}
 use Rattle.diagram.specs.Records.{Record, records, recordNumbers, recordSize, offset, nodeCount}
 use Rattle.diagram.specs.Build.{nodeRoom, Summary, summaryOf, built, Builds}
-use Rattle.diagram.specs.Theorems.{build-leaves}
-use Rattle.diagram.specs.Laws.Builds.{build-answered}
+use Rattle.diagram.specs.Laws.Builds.{build-answered, build-left}
 use Rattle.diagram.specs.Laws.Numbering.{written-length, records-room}
 use Rattle.diagram.specs.declared.Built.{Built}
 use Rattle.diagram.specs.declared.Built.the-variants.{Diagram, Refused}
@@ -88,7 +87,7 @@ module _ (n : ℕ) (table buffer nodes : List ℤ) (answer : Built) (a : Accepte
 
   -- The records stand in front of the buffer.
   pub records-left : nodes ≡ written n table ++ drop (recordSize * (nodeCount n table - 1)) buffer
-  records-left = b .left ∙ build-leaves n table buffer (summaryOf n table) (build-answered n table (length buffer) a room)
+  records-left = b .left ∙ build-left n table buffer (summaryOf n table) (build-answered n table (length buffer) a room)
 
   -- They are as many as the answer says, and few.
   pub records-there : RecordsThere nodes (length (records n table))

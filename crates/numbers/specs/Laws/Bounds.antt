@@ -4,7 +4,7 @@ use mathlib.Core.Path.{_≡_, refl}
 use mathlib.Core.Bool.{true, false}
 use native.Mathlib.Omega.{arith}
 use lib.Dec.{leb, ltb}
-use lib.IntN.{ℤ, pos, negsuc, natAbs, subℕ, _-ℤ_}
+use lib.IntN.{ℤ, pos, negsuc, negℤ, natAbs, subℕ, _-ℤ_}
 use lib.Signed.{mag, leZ}
 use borrow.Author.Tests.{leb-true, le-leb, ltb-true, ltb-false}
 use Rattle.numbers.specs.Ranges.{within, isValue, isWeight}
@@ -46,6 +46,12 @@ pub weight-of-size : (z : ℤ) → natAbs z ≤ 16777215 → isWeight z ≡ true
 unfolding isWeight within
 weight-of-size (pos a) h = le-leb a 16777215 h
 weight-of-size (negsuc a) h = and-both (leb a 16777214) true (le-leb a 16777214 (omega arith)) refl
+
+-- A signed 32-bit number, by its unsigned part.
+pub signed-32-of-mag : (z : ℤ) → mag z ≤ 2147483647 → within (negℤ (pos 2147483648)) (pos 2147483647) z ≡ true
+unfolding within
+signed-32-of-mag (pos a) h = le-leb a 2147483647 h
+signed-32-of-mag (negsuc a) h = and-both (leb a 2147483647) true (le-leb a 2147483647 h) refl
 
 -- The size of a difference of two natural numbers.
 sub-size : (a b : ℕ) → natAbs (subℕ a b) ≤ max a b

@@ -1,6 +1,7 @@
 -- The least and the greatest of a list, each as one of the list that lies on one side of all: what is proved of such a one holds of both.
 use Prim.Native.Nat.{ℕ, zero, suc, _+_, _-_, _<_}
 use mathlib.Core.Path.{_≡_, refl, sym, _∙_, ap, ap₂}
+use mathlib.Core.Logic.{_↔_}
 use mathlib.Core.Bool.{Bool, true}
 use mathlib.Core.List.{List, [], _∷_, _++_}
 use native.Mathlib.Omega.{arith}
@@ -11,9 +12,11 @@ use lib.Signed.{leZ}
 use borrow.Author.Tests.{ltb-true, ltb-false, leb-true, leb-false, le-leb, lt-leb}
 use Rattle.numbers.specs.Extremes.{lowest, highest, leastOf, greatestOf}
 use Rattle.numbers.specs.Ranges.{lesser, greater}
+use Rattle.numbers.specs.Conditions.{LeastOver, GreatestOver}
 use Rattle.numbers.specs.Laws.Bools.{yes-or-no}
 use Rattle.numbers.specs.Laws.Extremes.{leZ-refl, leZ-trans, leZ-antisym, lesser-left, lesser-right, greater-left, greater-right, lesser-one-of, greater-one-of, lowest-snoc, highest-snoc}
 use Rattle.numbers.specs.Laws.Integers.{shift-sub}
+use Rattle.numbers.specs.Laws.Tests.{at-most-test}
 
 -- ---- order and sums
 
@@ -172,3 +175,24 @@ module _ {le : ℤ → ℤ → Bool} {pick : ℤ → ℤ → ℤ} {of : List ℤ
       let a = e .among l h in
       let b = there (a .0) (a .1 .0) in
       sym (extreme-is m (of l) (b .0) (b .1 .0) (a .1 .1 ∙ b .1 .1) (λ i k. let c = back i k in ap (le (of l)) (c .1 .1) ∙ e .before l (c .0) (c .1 .0)))
+
+-- ---- over some X
+
+-- The first of a function's values over some X: it comes before all of them, and is one.
+pub record FirstOver (le : ℤ → ℤ → Bool) (over : ℕ → Type 0) (f : ℕ → ℤ) (z : ℤ) : Type 0 where
+  pub before : (x : ℕ) → over x → le z (f x) ≡ true
+  pub met : (x : ℕ) × (over x × (z ≡ f x))
+
+-- In the one order it is the least, in the other the greatest.
+module _ (over : ℕ → Type 0) (f : ℕ → ℤ) (z : ℤ) where
+  pub first-is-least : FirstOver leZ over f z ↔ LeastOver over f z
+  first-is-least = (
+    (λ r. record { under = λ x h. at-most-test z (f x) .0 (r .before x h); met = r .met }),
+    (λ r. record { before = λ x h. at-most-test z (f x) .1 (r .under x h); met = r .met }),
+  )
+
+  pub first-is-greatest : FirstOver (λ a b. leZ b a) over f z ↔ GreatestOver over f z
+  first-is-greatest = (
+    (λ r. record { above = λ x h. at-most-test (f x) z .0 (r .before x h); met = r .met }),
+    (λ r. record { before = λ x h. at-most-test (f x) z .1 (r .above x h); met = r .met }),
+  )

@@ -1,21 +1,21 @@
 -- Each test passes exactly where its plain condition holds.
-use Prim.Native.Nat.{ℕ, _+_, _-_, _≤_, _<_}
-use mathlib.Core.Path.{_≡_, refl, sym, _∙_, subst}
+use Prim.Native.Nat.{ℕ, _+_, _-_, _≤_, _<_, zero-le}
+use mathlib.Core.Path.{_≡_, refl, sym, _∙_, ap, subst}
 use mathlib.Core.Logic.{_↔_}
-use mathlib.Core.Bool.{Bool, true, false, false≢true, _&&_, _||_}
+use mathlib.Core.Bool.{Bool, true, false, not, false≢true, _&&_, _||_}
 use mathlib.Core.List.{List}
 use native.Mathlib.Omega.{arith}
 use lib.ListN.{length, getD}
 use lib.Dec.{T, leb, ltb, eqb}
-use lib.IntN.{ℤ}
-use lib.Signed.{leZ, ltZ, _≤ℤ_, _<ℤ_}
+use lib.IntN.{ℤ, pos, negsuc, negℤ}
+use lib.Signed.{leZ, ltZ, nonNeg, _≤ℤ_, _<ℤ_, ltZ-no, clashℤ, yes-nonNeg}
 use borrow.Author.Tests.{ltb-true, leb-true, eqb-true, lt-ltb, le-leb, eq-eqb}
 use Rattle.numbers.specs.Lists.{numbersFrom, every}
 use Rattle.numbers.specs.Ranges.{mostVariables, widestAddress, isVariables, isLimit, within, isValue, eqZ}
 use Rattle.numbers.specs.Laws.Bools.{both, and-both}
 use Rattle.numbers.specs.Laws.Integers.{eqZ-true, eqZ-refl}
 use Rattle.numbers.specs.Laws.Lists.{every-at, every-from, every-not, length-range, getD-range}
-use Rattle.numbers.specs.Conditions.{Between, Variables, Limit, TableValue}
+use Rattle.numbers.specs.Conditions.{Between, Variables, Limit, TableValue, Signed32}
 
 -- ---- tests of numbers
 
@@ -33,12 +33,28 @@ passed : (b : Bool) → (b ≡ true) ↔ T b
 passed true = ((λ h. tt), (λ t. refl))
 passed false = ((λ h. absurd (false≢true h)), (λ t. absurd t))
 
+-- A test fails exactly where its condition does not hold.
+pub fails-test : {P : Type 0} (b : Bool) → (b ≡ true) ↔ P → (b ≡ false) ↔ (¬ P)
+fails-test true t = ((λ h. absurd (false≢true (sym h))), (λ n. absurd (n (t .0 refl))))
+fails-test false t = ((λ h p. false≢true (t .1 p)), (λ n. refl))
+
 -- The order of integers.
 pub less-test : (a b : ℤ) → (ltZ a b ≡ true) ↔ (a <ℤ b)
 less-test a b = ((λ h. record { lt = passed (ltZ a b) .0 h }), (λ h. passed (ltZ a b) .1 (h .lt)))
 
 pub at-most-test : (a b : ℤ) → (leZ a b ≡ true) ↔ (a ≤ℤ b)
 at-most-test a b = ((λ h. record { le = passed (leZ a b) .0 h }), (λ h. passed (leZ a b) .1 (h .le)))
+
+-- What is not less is at least the other; what is not negative is at least 0.
+pub not-less-test : (a b : ℤ) → (ltZ a b ≡ false) ↔ (b ≤ℤ a)
+not-less-test a b = (
+  (λ h. ltZ-no (passed (not (ltZ a b)) .0 (ap not h))),
+  (λ h. fails-test (ltZ a b) (less-test a b) .1 (λ l. clashℤ l h)),
+)
+
+pub non-negative-test : (z : ℤ) → (nonNeg z ≡ true) ↔ (pos 0 ≤ℤ z)
+non-negative-test (pos a) = ((λ h. at-most-test (pos 0) (pos a) .0 (le-leb 0 a zero-le)), (λ h. refl))
+non-negative-test (negsuc a) = ((λ h. absurd (false≢true h)), (λ h. passed (nonNeg (negsuc a)) .1 (yes-nonNeg h)))
 
 -- ---- two tests
 
@@ -65,6 +81,10 @@ limit-test limit = and-test (leb 1 limit) (leb limit 12) (le-test 1 limit) (le-t
 pub value-test : (z : ℤ) → (isValue z ≡ true) ↔ TableValue z
 unfolding isValue TableValue
 value-test z = between-test _ _ z
+
+pub signed-32-test : (z : ℤ) → (within (negℤ (pos 2147483648)) (pos 2147483647) z ≡ true) ↔ Signed32 z
+unfolding Signed32
+signed-32-test z = between-test _ _ z
 
 -- ---- every element
 

@@ -1,24 +1,32 @@
 -- The report's answer: its refusals in their order, and its figures.
 use Prim.Native.Nat.{ℕ, suc, _+_, _-_, _^_, _≤_, _<_}
 use mathlib.Core.Path.{_≡_, sym, _∙_, ap}
-use mathlib.Core.Bool.{Bool, true, false, and-false}
+use mathlib.Core.Logic.{_↔_}
+use mathlib.Core.Bool.{true, false, and-false}
 use mathlib.Core.List.{List}
 use native.Mathlib.Omega.{arith}
-use lib.ListN.{getD}
+use lib.ListN.{getD, take, drop}
 use lib.Dec.{leb, ltb}
 use lib.IntN.{ℤ, pos}
 use lib.Signed.{mag}
 use borrow.Author.Tests.{leb-true, ltb-true, le-leb, lt-ltb, lt-leb, le-ltb}
 use Rattle.numbers.specs.Answers.{accepted, refused, unless}
+use Rattle.numbers.specs.Conditions.{Variables, TableValue, Part, LeastOver, GreatestOver}
 use Rattle.numbers.specs.Ranges.{isVariables, isValue}
+use Rattle.numbers.specs.Widths.{holds}
 use Rattle.numbers.specs.Laws.Answers.{unless-accepted}
 use Rattle.numbers.specs.Laws.Bools.{both, and-both}
-use Rattle.numbers.specs.Laws.Extremal.{Extreme}
+use Rattle.numbers.specs.Laws.Extremal.{leasts, greatests, first-is-least, first-is-greatest}
+use Rattle.numbers.specs.Laws.Tests.{fails-test, variables-test, value-test}
+use Rattle.numbers.specs.Laws.Widths.{holds-suc}
+use Rattle.diagram.specs.Accepted.{Accepted, written}
+use Rattle.diagram.specs.Records.{offset as tableOffset}
 use Rattle.diagram.specs.Walk.{listFits, ofList, walkValue, walk}
 use Rattle.diagram.specs.Inner.Edges.{Passing}
 use Rattle.diagram.specs.Laws.Lists.{list-passes, walk-inside}
+use Rattle.diagram.specs.Laws.Walks.{written-passing}
 use Rattle.report.specs.Report.{valuesFrom, Figures, figuresOf, isPart, report}
-use Rattle.report.specs.Laws.Reports.{values-at, value-after, value-met, part-sum-small}
+use Rattle.report.specs.Laws.Reports.{values-count, values-at, values-first, part-sum-small, values-of-table}
 
 -- ---- a part of the domain
 
@@ -46,18 +54,19 @@ part-past n a b h = rw (le-ltb b (2 ^ n) h) (and-false (leb a b))
 
 module _ (n : ℕ) (offset : ℤ) (list : List ℤ) (a b : ℕ) where
   -- Walk's own refusals.
-  pub report-unnumbered : isVariables n ≡ false → report n offset list a b ≡ refused 1
+  pub one-before-all : ¬ Variables n → report n offset list a b ≡ refused 1
   unfolding report ofList
-  report-unnumbered e = rw e
+  one-before-all outside = rw (fails-test (isVariables n) (variables-test n) .1 outside)
 
-  pub report-offset : isVariables n ≡ true → isValue offset ≡ false → report n offset list a b ≡ refused 5
+  pub five-before-six : Variables n → ¬ TableValue offset → report n offset list a b ≡ refused 5
   unfolding report ofList
-  report-offset e f = rw (e, f)
+  five-before-six inside outside = rw (variables-test n .1 inside, fails-test (isValue offset) (value-test offset) .1 outside)
 
-  pub report-list : isVariables n ≡ true → isValue offset ≡ true → listFits n list ≡ false → report n offset list a b ≡ refused 6
+  pub six-before-fifteen : Variables n → TableValue offset → listFits n list ≡ false → report n offset list a b ≡ refused 6
   unfolding report ofList
-  report-list e f g = rw (e, f, g)
+  six-before-fifteen inside ranged unfit = rw (variables-test n .1 inside, value-test offset .1 ranged, unfit)
 
+  -- What follows them.
   pub report-outside : Passing n offset list → isPart n a b ≡ false → report n offset list a b ≡ refused 15
   unfolding report
   report-outside p e = list-passes n offset list _ p ∙ ap (λ t. unless t 15 (accepted (figuresOf (valuesFrom n offset list a b)))) e
@@ -65,6 +74,19 @@ module _ (n : ℕ) (offset : ℤ) (list : List ℤ) (a b : ℕ) where
   pub report-inside : Passing n offset list → isPart n a b ≡ true → report n offset list a b ≡ accepted (figuresOf (valuesFrom n offset list a b))
   unfolding report
   report-inside p e = list-passes n offset list _ p ∙ ap (λ t. unless t 15 (accepted (figuresOf (valuesFrom n offset list a b)))) e
+
+  module _ (inside : Variables n) (ranged : TableValue offset) (fits : listFits n list ≡ true) where
+    passing : Passing n offset list
+    passing = record { variables = variables-test n .1 inside; start = value-test offset .1 ranged; records = fits }
+
+    pub turned-refused : b < a → report n offset list a b ≡ refused 15
+    turned-refused h = report-outside passing (part-turned n a b h)
+
+    pub past-refused : 2 ^ n ≤ b → report n offset list a b ≡ refused 15
+    past-refused h = report-outside passing (part-past n a b h)
+
+    part-answered : a ≤ b → b < 2 ^ n → report n offset list a b ≡ accepted (figuresOf (valuesFrom n offset list a b))
+    part-answered h k = report-inside passing (part-inside n a b h k)
 
   -- What an answer shows.
   module _ (f : Figures) (e : report n offset list a b ≡ accepted f) where
@@ -77,37 +99,62 @@ module _ (n : ℕ) (offset : ℤ) (list : List ℤ) (a b : ℕ) where
         let four = unless-accepted (isPart n a b) 15 _ f (three .1) in
         (record { variables = one .0; start = two .0; records = three .0 }, four .0, four .1)
 
-    pub answer-passing : Passing n offset list
+    answer-passing : Passing n offset list
     answer-passing = shown .0
 
-    pub answer-part : (a ≤ b) × (b < 2 ^ n)
+    answer-part : (a ≤ b) × (b < 2 ^ n)
     answer-part = part-order n a b (shown .1)
 
-    pub answer-figures : f ≡ figuresOf (valuesFrom n offset list a b)
-    answer-figures = let h = shown .2 in sym (let g : figuresOf (valuesFrom n offset list a b) ≡ f = cc in g)
+    pub figures-of-values : f ≡ figuresOf (valuesFrom n offset list a b)
+    figures-of-values = let h = shown .2 in sym (let g : figuresOf (valuesFrom n offset list a b) ≡ f = cc in g)
 
-    -- Each value is what Walk answers there.
-    pub answer-walks : (j : ℕ) → j < suc b - a → walk n offset list (a + j) ≡ accepted (getD (valuesFrom n offset list a b) j (pos 0))
-    answer-walks j h =
-        walk-inside n offset list (a + j) answer-passing (let p = answer-part .1 in omega arith) ∙ ap accepted (sym (values-at n offset list a b j h))
+    -- What Walk answers at X from a to b, and the entry there.
+    pub walked-there : (x : ℕ) → a ≤ x → x ≤ b → walk n offset list x ≡ accepted (walkValue n offset list x)
+    walked-there x h k = walk-inside n offset list x answer-passing (let p = answer-part .1 in omega arith)
 
-    -- What Walk answers at X from a to b.
-    walked-there : (x : ℕ) → x ≤ b → walk n offset list x ≡ accepted (walkValue n offset list x)
-    walked-there x h = walk-inside n offset list x answer-passing (let p = answer-part .1 in omega arith)
+    pub values-are-walks : (x : ℕ) → a ≤ x → x ≤ b → walk n offset list x ≡ accepted (getD (valuesFrom n offset list a b) (x - a) (pos 0))
+    values-are-walks x h k =
+        walked-there x h k
+        ∙ ap accepted (sym (values-at n offset list a b (x - a) (omega arith) ∙ ap (walkValue n offset list) (let p : a + (x - a) ≡ x = omega arith in p)))
 
-    -- An extreme of the values comes before each of these, and is one.
-    module _ {le : ℤ → ℤ → Bool} {pick : ℤ → ℤ → ℤ} {of : List ℤ → ℤ} (extreme : Extreme le pick of) where
-      pub answer-before : (x : ℕ) → a ≤ x → x ≤ b → (v : ℤ) → walk n offset list x ≡ accepted v → le (of (valuesFrom n offset list a b)) v ≡ true
-      answer-before x h k v w =
-          let same : accepted (walkValue n offset list x) ≡ accepted v = sym (walked-there x k) ∙ w in
-          ap (le (of (valuesFrom n offset list a b))) (sym (let g : walkValue n offset list x ≡ v = cc in g)) ∙ value-after n offset list a extreme b x h k
+    pub counts-both-ends : f .count ≡ b - a + 1
+    unfolding figuresOf
+    counts-both-ends =
+        ap (λ g. g .count) figures-of-values
+        ∙ values-count n offset list a b
+        ∙ (let o = answer-part .0 in let p : suc b - a ≡ b - a + 1 = omega arith in p)
 
-      pub answer-met : (x : ℕ) × (a ≤ x) × (x ≤ b) × (walk n offset list x ≡ accepted (of (valuesFrom n offset list a b)))
-      answer-met =
-          let m = value-met n offset list a extreme b (answer-part .0) in
-          (m .0, m .1, m .2, walked-there (m .0) (m .2) ∙ ap accepted (sym (m .3)))
+    -- Its extremes.
+    pub least-of-walks : LeastOver (Part a b) (walkValue n offset list) (f .least)
+    unfolding figuresOf
+    least-of-walks =
+        rw figures-of-values (first-is-least (Part a b) (walkValue n offset list) _ .0 (values-first n offset list a leasts b (answer-part .0)))
+
+    pub greatest-of-walks : GreatestOver (Part a b) (walkValue n offset list) (f .greatest)
+    unfolding figuresOf
+    greatest-of-walks =
+        rw figures-of-values (first-is-greatest (Part a b) (walkValue n offset list) _ .0 (values-first n offset list a greatests b (answer-part .0)))
 
     -- Its sum lies between -2^40 and 2^40.
-    pub answer-sum : mag (f .sum) < 2 ^ 40
+    pub sum-in-41-bits : holds 41 (f .sum) ≡ true
     unfolding figuresOf
-    answer-sum = rw answer-figures (part-sum-small n offset list answer-passing a b (answer-part .1))
+    sum-in-41-bits =
+        holds-suc 40 (f .sum)
+        ∙ lt-ltb (mag (f .sum)) (2 ^ 40) (rw figures-of-values (part-sum-small n offset list answer-passing a b (answer-part .1)))
+
+  -- Which calls have one.
+  pub report-accepts : (Variables n × TableValue offset × (listFits n list ≡ true) × (a ≤ b) × (b < 2 ^ n)) ↔ ((f : Figures) × (report n offset list a b ≡ accepted f))
+  report-accepts = (
+    (λ p. (figuresOf (valuesFrom n offset list a b), part-answered (p .0) (p .1) (p .2) (p .3) (p .4))),
+    (λ f.
+        let p = answer-passing (f .0) (f .1) in
+        let q = answer-part (f .0) (f .1) in
+        (variables-test n .0 (p .variables), value-test offset .0 (p .start), p .records, q .0, q .1)),
+  )
+
+-- ---- the records of a table
+
+pub report-on-table : (n : ℕ) (table : List ℤ) → Accepted n table → (a b : ℕ) → a ≤ b → b < 2 ^ n → report n (tableOffset table) (written n table) a b ≡ accepted (figuresOf (take (suc b - a) (drop a table)))
+report-on-table n table admitted a b h k =
+    report-inside n (tableOffset table) (written n table) a b (written-passing n table admitted) (part-inside n a b h k)
+    ∙ ap (λ values. accepted (figuresOf values)) (values-of-table n table (admitted .size) a b k)

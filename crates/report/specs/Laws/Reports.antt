@@ -1,7 +1,7 @@
 -- Values from a to b: one after the other, one more, and their sum within bounds.
 use Prim.Native.Nat.{ℕ, suc, _+_, _-_, _*_, _^_, _≤_, _<_}
 use mathlib.Core.Path.{_≡_, sym, _∙_, ap}
-use mathlib.Core.Bool.{Bool, true}
+use mathlib.Core.Bool.{Bool}
 use mathlib.Core.List.{List, [], _∷_, _++_, map}
 use native.Mathlib.Nat.{mul-le-mul-right}
 use native.Mathlib.Omega.{arith}
@@ -10,9 +10,10 @@ use lib.Seq.{ext-getD, getD-take, getD-drop, length-take-le}
 use lib.Pow.{pow-mono}
 use lib.IntN.{ℤ, pos, _+ℤ_}
 use lib.Signed.{mag}
+use Rattle.numbers.specs.Conditions.{Part}
 use Rattle.numbers.specs.Lists.{numbersFrom, exactSum}
 use Rattle.numbers.specs.Laws.Bounds.{value-mag}
-use Rattle.numbers.specs.Laws.Extremal.{Extreme}
+use Rattle.numbers.specs.Laws.Extremal.{Extreme, FirstOver}
 use Rattle.numbers.specs.Laws.Lists.{length-range, getD-range, getD-map, range-suc, map-append}
 use Rattle.numbers.specs.Laws.Machine.{mag-add}
 use Rattle.numbers.specs.Laws.Sums.{exact-one, sum-snoc, sum-small}
@@ -63,16 +64,18 @@ module _ (n : ℕ) (offset : ℤ) (list : List ℤ) (a : ℕ) where
     extreme-more x h = ap of (values-next x h) ∙ e .snoc (valuesFrom n offset list a x) (walkValue n offset list (x + 1)) (rw (values-count x) (omega arith))
 
     -- It comes before every value, and is one.
-    pub value-after : (b x : ℕ) → a ≤ x → x ≤ b → le (of (valuesFrom n offset list a b)) (walkValue n offset list x) ≡ true
-    value-after b x h k =
-        ap (le (of (valuesFrom n offset list a b))) (sym (values-at b (x - a) (omega arith) ∙ ap (walkValue n offset list) (let p : a + (x - a) ≡ x = omega arith in p)))
-        ∙ e .before (valuesFrom n offset list a b) (x - a) (rw (values-count b) (omega arith))
-
-    pub value-met : (b : ℕ) → a ≤ b → (x : ℕ) × (a ≤ x) × (x ≤ b) × (of (valuesFrom n offset list a b) ≡ walkValue n offset list x)
-    value-met b h =
+    pub values-first : (b : ℕ) → a ≤ b → FirstOver le (Part a b) (walkValue n offset list) (of (valuesFrom n offset list a b))
+    values-first b h =
         let m = e .among (valuesFrom n offset list a b) (rw (values-count b) (omega arith)) in
         let l : m .0 < suc b - a = rw (values-count b) at (m .1 .0) in
-        (a + m .0, omega arith, omega arith, m .1 .1 ∙ values-at b (m .0) l)
+        record {
+          before = λ x k.
+              let at = k .0 in
+              let most = k .1 in
+              ap (le (of (valuesFrom n offset list a b))) (sym (values-at b (x - a) (omega arith) ∙ ap (walkValue n offset list) (let p : a + (x - a) ≡ x = omega arith in p)))
+              ∙ e .before (valuesFrom n offset list a b) (x - a) (rw (values-count b) (omega arith));
+          met = (a + m .0, ((omega arith, omega arith), m .1 .1 ∙ values-at b (m .0) l));
+        }
 
   pub sum-one : exactSum (valuesFrom n offset list a a) ≡ walkValue n offset list a
   sum-one = ap exactSum values-one ∙ exact-one (walkValue n offset list a)

@@ -1,27 +1,24 @@
 -- The report goes by its checks, and its figures are those of Walk's values.
 use Prim.Native.Nat.{ℕ, suc, _+_, _-_, _^_, _≤_, _<_}
-use mathlib.Core.Path.{_≡_, refl, sym, _∙_, ap}
+use mathlib.Core.Path.{_≡_, refl, _∙_, ap}
 use mathlib.Core.Logic.{_↔_, inl, inr}
-use mathlib.Core.Bool.{true, _&&_}
+use mathlib.Core.Bool.{true}
 use mathlib.Core.List.{List, map}
 use native.Mathlib.Omega.{arith}
-use lib.ListN.{length}
 use lib.IntN.{ℤ}
 use lib.Dec.{leb, ltb}
 use Rattle.numbers.specs.Answers.{accepted, refused}
-use Rattle.numbers.specs.Conditions.{Variables, TableValue, Part, LeastOver, GreatestOver}
-use Rattle.numbers.specs.Extremes.{leastOf, greatestOf}
+use Rattle.numbers.specs.Conditions.{Variables, TableValue, Part}
 use Rattle.numbers.specs.Lists.{numbersFrom, exactSum}
 use Rattle.numbers.specs.Ranges.{isVariables, isValue}
-use Rattle.numbers.specs.Laws.Extremal.{leasts, greatests}
-use Rattle.numbers.specs.Laws.Tests.{le-test, lt-test, at-most-test, and-test, variables-test, value-test}
+use Rattle.numbers.specs.Laws.Tests.{le-test, lt-test, and-test, variables-test, value-test}
 use Rattle.diagram.specs.Walk.{listFits, ofList, walk, walkValue}
 use Rattle.report.specs.Report.{valuesFrom, Figures, figuresOf, isPart, report}
-use Rattle.report.specs.Laws.Reports.{values-count, value-after, value-met}
+use Rattle.report.specs.Theorems as reports
 use Rattle.demands.specs.Checks.{AllHold, FirstFails, Decided}
 use Rattle.demands.specs.Admitted.{RecordList, walkChecks}
 use Rattle.demands.specs.Requested.{reportChecks, FiguresOver}
-use Rattle.demands.specs.Laws.Checks.{decided-accepted, decided-unless, answers-value, unless-only, accepted-only}
+use Rattle.demands.specs.Laws.Checks.{decided-accepted, decided-unless}
 use Rattle.demands.specs.Laws.Diagram.{list-test, decided-walk, walk-value}
 
 module _ (n : ℕ) (offset : ℤ) (list : List ℤ) (a b : ℕ) where
@@ -38,38 +35,22 @@ module _ (n : ℕ) (offset : ℤ) (list : List ℤ) (a b : ℕ) where
       (decided-unless (isPart n a b) part-test
       (decided-accepted (figuresOf (valuesFrom n offset list a b))))))
 
-  -- The figures of the values from a to b, a not above b.
-  figures-over : a ≤ b → FiguresOver n offset list a b (figuresOf (valuesFrom n offset list a b))
+  -- The figures of an accepted call.
+  figures-over : (f : Figures) → report n offset list a b ≡ accepted f → a ≤ b → FiguresOver n offset list a b f
   unfolding figuresOf valuesFrom
-  figures-over h =
-      let many : suc b - a ≡ b - a + 1 = omega arith in
-      let low = value-met n offset list a leasts b h in
-      let high = value-met n offset list a greatests b h in
-      record {
-        counted = values-count n offset list a b ∙ many;
-        least = record {
-          under = λ x p. at-most-test _ _ .0 (value-after n offset list a leasts b x (p .0) (p .1));
-          met = (low .0, ((low .1, low .2), low .3));
-        };
-        greatest = record {
-          above = λ x p. at-most-test _ _ .0 (value-after n offset list a greatests b x (p .0) (p .1));
-          met = (high .0, ((high .1, high .2), high .3));
-        };
-        summed = ap (λ count. exactSum (map (walkValue n offset list) (numbersFrom a count))) many;
-      }
+  figures-over f e h = record {
+    counted = reports.counts-both-ends n offset list a b f e;
+    least = reports.least-of-walks n offset list a b f e;
+    greatest = reports.greatest-of-walks n offset list a b f e;
+    summed =
+        ap (λ g. g .sum) (reports.figures-of-values n offset list a b f e)
+        ∙ ap (λ count. exactSum (map (walkValue n offset list) (numbersFrom a count))) (let many : suc b - a ≡ b - a + 1 = omega arith in many);
+  }
 
   module _ (all : AllHold (reportChecks n offset list a b)) where
     pub report-figures : (f : Figures) × ((report n offset list a b ≡ accepted f) × FiguresOver n offset list a b f)
-    unfolding report ofList reportChecks AllHold
-    report-figures = (
-      figuresOf (valuesFrom n offset list a b),
-      (
-        answers-value decided-report (figuresOf (valuesFrom n offset list a b))
-            (unless-only (isVariables n) 1 (unless-only (isValue offset) 5 (unless-only (listFits n list) 6 (unless-only (isPart n a b) 15 (accepted-only (figuresOf (valuesFrom n offset list a b)))))))
-            all,
-        figures-over (all .1 .1 .1 .0 .0),
-      ),
-    )
+    unfolding reportChecks AllHold
+    report-figures = let s = decided-report .accepts .0 all in (s .0, (s .1, figures-over (s .0) (s .1) (all .1 .1 .1 .0 .0)))
 
     -- Walk answers at each of these X.
     pub walks-there : (x : ℕ) → Part a b x → walk n offset list x ≡ accepted (walkValue n offset list x)

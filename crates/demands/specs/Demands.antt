@@ -35,6 +35,7 @@ use Rattle.image.specs.Commands.{cellCommands}
 use Rattle.image.specs.Reader.{reading}
 use Rattle.image.specs.declared.Command.the-variants as commands
 use Rattle.cascade.specs.Theorems as cascades
+use Rattle.cascade.specs.Laws.Compiled as compiles
 use Rattle.demands.specs.Laws.Demands as proved
 
 -- Demand 1. No admitted call is turned away, each gets its answer, and every other call gets one number, that of the first check that
@@ -195,7 +196,7 @@ expanding-returns-the-table = cascades.compiled-expands
 
 pub compile-gives-the-chosen-image : (n : ℕ) (table : List ℤ) → Accepted n table → (limit : ℕ) → isLimit limit ≡ true → (sizes : List ℕ) → isGrouping n sizes ≡ true → fits n table limit sizes ≡ true
     → (best : List ℕ) × BestGrouping n table limit best × ((buffer : List ℕ) → length (imageFor n table best) ≤ length buffer → (r : ImageSummary) × (compileAnswer n table limit (length buffer) ≡ accepted r) × (compiledImage r (compileBuffer n table limit buffer) ≡ imageFor n table best) × (r .planned .cells ≡ length best) × (r .planned .bits ≡ cost n table best))
-compile-gives-the-chosen-image = cascades.compile-gives
+compile-gives-the-chosen-image = compiles.compile-gives
 
 module _ (n : ℕ) (table : List ℤ) (limit : ℕ) (buffer : List ℕ) (r : ImageSummary) (compiled : compileAnswer n table limit (length buffer) ≡ accepted r) where
   -- The compiled image.

@@ -94,7 +94,8 @@ module _ (n : ℕ) (table : List ℤ) (sizes : List ℕ) where
 
 -- ---- the commonest outgoing classes of Plan's cells
 
-module _ (n : ℕ) (table : List ℤ) (sizes : List ℕ) (grouping : isGrouping n sizes ≡ true) (k : ℕ) (below : k < length sizes) where
+module _ (n : ℕ) (table : List ℤ) (sizes : List ℕ) (grouping : isGrouping n sizes ≡ true)
+    (k : ℕ) (below : k < length sizes) where
   -- Cell k as Plan answers it, and the cut where it ends.
   abbrev planned : PlanCell
   planned = getD (planCells n table 0 sizes) k noCell

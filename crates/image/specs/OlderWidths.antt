@@ -1,4 +1,4 @@
--- Images with other widths than their cells' weights have, and among them the older images: by the older rule every cell had a signed width.
+-- Images with other widths than the reader asks, and among them the older ones: by the older rule every cell had a signed width.
 use Prim.Native.Nat.{ℕ}
 use mathlib.Core.Path.{_≡_}
 use mathlib.Core.List.{List, _∷_, _++_, map, flatMap}

@@ -107,7 +107,8 @@ pub card-described : (card : Card) → cardOf (cardCommands card) ≡ card
 card-described = cards.card-of
 
 -- Run of its image is the card's answer, Expand its values.
-pub card-run : (card : Card) → WellFormed card → (x : ℕ) → x < 2 ^ card .n → run (imageOf card) x ≡ accepted (runCard card x)
+pub card-run : (card : Card) → WellFormed card → (x : ℕ) → x < 2 ^ card .n
+    → run (imageOf card) x ≡ accepted (runCard card x)
 card-run = written.image-run
 
 pub card-expand : (card : Card) → WellFormed card → expand (imageOf card) (2 ^ card .n) ≡ accepted (cardValues card)
@@ -164,16 +165,18 @@ module _ (cell : Cell) where
   pub older-width-same : (i : ℕ) → i < length own → getD own i (pos 0) <ℤ pos 0 → olderWidth cell ≡ widthOf cell
   older-width-same = older-images.older-width-same cell
 
-  -- One without has one bit more, unless its width is 0.
+  -- One without has one bit more, unless its weights are all 0.
   pub older-width-one-more : ((j : ℕ) → j < length own → ¬ (getD own j (pos 0) <ℤ pos 0)) → ¬ (widthOf cell ≡ 0)
       → olderWidth cell ≡ suc (widthOf cell)
   older-width-one-more = older-images.older-width-one-more cell
 
 -- The cards of the older rule are those of the present one, with the same words and the older widths.
-pub older-of-present : (card : Card) → WellFormed card → OlderWellFormed (olderCard card) × (presentCard (olderCard card) ≡ card)
+pub older-of-present : (card : Card) → WellFormed card
+    → OlderWellFormed (olderCard card) × (presentCard (olderCard card) ≡ card)
 older-of-present card w = (older-images.older-of-card card w, older-images.present-back card w)
 
-pub present-of-older : (card : Card) → OlderWellFormed card → WellFormed (presentCard card) × (olderCard (presentCard card) ≡ card)
+pub present-of-older : (card : Card) → OlderWellFormed card
+    → WellFormed (presentCard card) × (olderCard (presentCard card) ≡ card)
 present-of-older card w = (older-images.present-of-card card w, older-images.older-back card w)
 
 -- ---- older images

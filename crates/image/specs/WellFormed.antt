@@ -38,7 +38,8 @@ pub record KeepsWord (outgoing value : ℕ) (word : Word) : Type 0 where
 pub record KeepsCellBy (rule : Cell → ℕ) (left classes : ℕ) (cell : Cell) : Type 0 where
   pub shape : KeepsShape left classes (cell .group) (cell .incoming) (cell .outgoing)
   pub whole : length (cell .words) ≡ cell .incoming * 2 ^ cell .group
-  pub words : (j : ℕ) → j < length (cell .words) → KeepsWord (cell .outgoing) (j % 2 ^ cell .group) (getD (cell .words) j noWord)
+  pub words : (j : ℕ) → j < length (cell .words)
+      → KeepsWord (cell .outgoing) (j % 2 ^ cell .group) (getD (cell .words) j noWord)
   pub width : cell .width ≡ rule cell
 
 -- The cells from a cut down, with so many variables left and so many classes there.

@@ -6,7 +6,8 @@ use lib.ListN.{length, getD}
 use lib.IntN.{ℤ, pos}
 use Rattle.numbers.specs.Answers.{accepted}
 use Rattle.cascade.specs.Compile.{ImageSummary, compileAnswer, compileBuffer, compiledImage}
-use Rattle.pairs.specs.Pairs.{pairIndex, pairRun, Pair}
+use Rattle.pairs.specs.Pairs.{pairIndex, pairRun}
+use Rattle.pairs.specs.Conditions.{Pair}
 
 -- The entry in row X, column Y: the table's value at the index of the pair.
 unfoldable pub entryAt : ℕ → List ℤ → ℕ → ℕ → ℤ

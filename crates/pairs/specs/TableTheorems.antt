@@ -11,7 +11,8 @@ use Rattle.blocks.specs.Blocks.{block, blocks}
 use Rattle.diagram.specs.Accepted.{Accepted}
 use Rattle.cascade.specs.Compile.{imageFor, ImageSummary, compileAnswer, compileBuffer, compiledImage}
 use Rattle.cascade.specs.Groupings.{BestGrouping, isGrouping, fits}
-use Rattle.pairs.specs.Pairs.{pairRun, PairBits}
+use Rattle.pairs.specs.Pairs.{pairRun}
+use Rattle.pairs.specs.Conditions.{PairBits}
 use Rattle.pairs.specs.PairTables.{entryAt, Symmetric, GivesEntries, CompilesPairs}
 use Rattle.pairs.specs.Laws.Compiled as proved
 use Rattle.pairs.specs.Laws.Rows as rows
@@ -19,7 +20,8 @@ use Rattle.pairs.specs.Laws.Rows as rows
 -- ---- rows and columns
 
 -- Row X is the table's block X of height m, and the entry in column Y is value Y of the row.
-pub entry-of-row : (m : ℕ) (table : List ℤ) (x y : ℕ) → y < 2 ^ m → entryAt m table x y ≡ getD (block table m x) y (pos 0)
+pub entry-of-row : (m : ℕ) (table : List ℤ) (x y : ℕ) → y < 2 ^ m
+    → entryAt m table x y ≡ getD (block table m x) y (pos 0)
 entry-of-row = rows.entry-of-row
 
 -- A table over n = 2m variables has 2^m rows, and is these one behind another.

@@ -1,4 +1,5 @@
--- The pair run: that each pair has an index of its own, which calls are answered, as Run does at that index, and what turns the others away.
+-- The pair run: that each pair has an index of its own, which calls are answered, as Run does at that index, and what turns the others
+-- away.
 use Prim.Native.Nat.{ℕ, _*_, _/_, _%_, _^_, _<_}
 use mathlib.Core.Path.{_≡_}
 use mathlib.Core.List.{List, _++_}
@@ -12,7 +13,8 @@ use Rattle.image.specs.Reader.{step, start, reading, readingFor}
 use Rattle.image.specs.Run.{Result, run}
 use Rattle.image.specs.declared.Command.{Command}
 use Rattle.image.specs.declared.Command.the-variants.{Table}
-use Rattle.pairs.specs.Pairs.{pairIndex, pairRun, PairBits, Pair, PairImage}
+use Rattle.pairs.specs.Pairs.{pairIndex, pairRun}
+use Rattle.pairs.specs.Conditions.{PairBits, Pair, PairImage}
 use Rattle.pairs.specs.Laws.Answers as answers
 use Rattle.pairs.specs.Laws.Indices as indices
 
@@ -34,7 +36,8 @@ index-of-some = indices.index-of-some
 
 module _ (m : ℕ) (image : List ℕ) (x y : ℕ) where
   -- Exactly those with m from 1 to 6, an accepted image whose n is 2m, and X and Y below 2^m.
-  pub pair-run-accepts : (PairBits m × PairImage m image × Pair m x y) ↔ ((r : Result) × (pairRun m image x y ≡ accepted r))
+  pub pair-run-accepts : (PairBits m × PairImage m image × Pair m x y)
+      ↔ ((r : Result) × (pairRun m image x y ≡ accepted r))
   pair-run-accepts = answers.accepted-calls m image x y
 
   module _ (r : Result) (answered : pairRun m image x y ≡ accepted r) where

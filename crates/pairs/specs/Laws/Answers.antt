@@ -21,7 +21,8 @@ use Rattle.image.specs.Laws.Running.{run-refused}
 use Rattle.image.specs.Laws.Words.{card-words, run-of-card}
 use Rattle.image.specs.declared.Command.{Command}
 use Rattle.image.specs.declared.Command.the-variants.{Table}
-use Rattle.pairs.specs.Pairs.{isPairBits, isPair, pairIndex, pairRun, PairBits, Pair, PairImage}
+use Rattle.pairs.specs.Pairs.{isPairBits, isPair, pairIndex, pairRun}
+use Rattle.pairs.specs.Conditions.{PairBits, Pair, PairImage}
 use Rattle.pairs.specs.Laws.Indices.{index-below}
 
 -- ---- the tests

@@ -19,7 +19,8 @@ use Rattle.diagram.specs.Accepted.{Accepted}
 use Rattle.cascade.specs.Groupings.{BestGrouping, isGrouping, fits}
 use Rattle.cascade.specs.Compile.{imageFor, ImageSummary, compileAnswer, compileBuffer, compiledImage}
 use Rattle.cascade.specs.Theorems.{compiled-chosen, compiled-runs, compiled-bits, compile-gives}
-use Rattle.pairs.specs.Pairs.{isPairBits, isPair, pairIndex, pairRun, PairBits, Pair}
+use Rattle.pairs.specs.Pairs.{isPairBits, isPair, pairIndex, pairRun}
+use Rattle.pairs.specs.Conditions.{PairBits, Pair}
 use Rattle.pairs.specs.Laws.Indices.{index-below}
 use Rattle.pairs.specs.Laws.Answers.{bits-test, pair-test, pair-refused, pair-run}
 use Rattle.pairs.specs.PairTables.{entryAt, Symmetric, CompilesPairs}

@@ -5,7 +5,8 @@ use native.Mathlib.Nat.{mul-comm, add-zero, mod-lt, mod-eq-of-lt, div-eq-of-lt, 
 use native.Mathlib.Omega.{arith}
 use lib.Pow.{pow-pos, pow-mono}
 use Rattle.numbers.specs.Laws.Powers.{power-split, part-room}
-use Rattle.pairs.specs.Pairs.{pairIndex, Pair}
+use Rattle.pairs.specs.Pairs.{pairIndex}
+use Rattle.pairs.specs.Conditions.{Pair}
 
 module _ (m : ℕ) where
   -- 2^(2m) is 2^m times 2^m.

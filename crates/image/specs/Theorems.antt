@@ -165,10 +165,14 @@ module _ (cell : Cell) where
   pub older-width-same : (i : ℕ) → i < length own → getD own i (pos 0) <ℤ pos 0 → olderWidth cell ≡ widthOf cell
   older-width-same = older-images.older-width-same cell
 
-  -- One without has one bit more, unless its weights are all 0.
+  -- One without has one bit more, unless its width is 0.
   pub older-width-one-more : ((j : ℕ) → j < length own → ¬ (getD own j (pos 0) <ℤ pos 0)) → ¬ (widthOf cell ≡ 0)
       → olderWidth cell ≡ suc (widthOf cell)
   older-width-one-more = older-images.older-width-one-more cell
+
+  -- Width 0 stays.
+  pub older-width-zero : widthOf cell ≡ 0 → olderWidth cell ≡ 0
+  older-width-zero = older-images.older-width-zero cell
 
 -- The cards of the older rule are those of the present one, with the same words and the older widths.
 pub older-of-present : (card : Card) → WellFormed card

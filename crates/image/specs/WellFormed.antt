@@ -58,12 +58,12 @@ pub record WellFormedBy (rule : Cell → ℕ) (card : Card) : Type 0 where
 abbrev pub widthOf : Cell → ℕ
 widthOf cell = weightWidth (weights (cell .words))
 
+-- With these widths: a cell, the cells from a cut down, and a card that keeps every rule.
 abbrev pub KeepsCell : ℕ → ℕ → Cell → Type 0
 KeepsCell = KeepsCellBy widthOf
 
 abbrev pub KeepsCells : ℕ → ℕ → List Cell → Type 0
 KeepsCells = KeepsCellsBy widthOf
 
--- A card that keeps every rule.
 abbrev pub WellFormed : Card → Type 0
 WellFormed = WellFormedBy widthOf

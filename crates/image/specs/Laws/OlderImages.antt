@@ -16,7 +16,7 @@ use Rattle.numbers.specs.Laws.Lists.{every-at, every-from, map-append}
 use Rattle.numbers.specs.Laws.Machine.{sign-test}
 use Rattle.numbers.specs.Laws.Selections.{flatMap-append}
 use Rattle.numbers.specs.Laws.Tests.{less-test}
-use Rattle.numbers.specs.Laws.Widths.{signed-width, weight-width-zero}
+use Rattle.numbers.specs.Laws.Widths.{least-width-le, signed-width, weight-width-zero}
 use Rattle.image.specs.Cells.{Cell, Card, totalBits}
 use Rattle.image.specs.Commands.{commandBytes, cellCommands, cardCommands, imageOf}
 use Rattle.image.specs.OlderWidths.{withWidth, imageTo, olderWidth, OlderWellFormed, WidthDisagrees, withWidths, olderCard, presentCard}
@@ -51,6 +51,11 @@ module _ (cell : Cell) where
     where
       not-less : (z : ℤ) → ¬ (z <ℤ pos 0) → ltZ z (pos 0) ≡ false
       not-less z n = yes-or-no (ltZ z (pos 0)) (λ e. absurd (n (less-test z (pos 0) .0 e))) (λ e. e)
+
+  -- Where that is 0, it is 0.
+  pub older-width-zero : widthOf cell ≡ 0 → olderWidth cell ≡ 0
+  unfolding olderWidth holds
+  older-width-zero none = let least = least-width-le holds own 0 (weight-width-zero own .0 none) in omega arith
 
 -- ---- one rule for another
 

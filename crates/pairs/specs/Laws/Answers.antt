@@ -90,7 +90,7 @@ module _ (m : ℕ) (image : List ℕ) (x y : ℕ) where
 -- ---- what an answer tells
 
 module _ (m : ℕ) (image : List ℕ) (x y : ℕ) where
-  -- What an image tells that is read for n = 2m.
+  -- What an image tells that is read for n = 2m, and back.
   read-pairs : (commands : List Command) → readingFor (2 * m) image ≡ accepted commands → PairImage m image
   read-pairs commands h = let r = for-accepted (2 * m) image commands .1 h in (commands, r .0, r .1)
 
@@ -110,12 +110,14 @@ module _ (m : ℕ) (image : List ℕ) (x y : ℕ) where
       (λ b commands h p e. (bits-test m .0 b, read-pairs commands h, pair-test m x y .0 p))
       (answered .1)
 
+  -- The calls that are answered.
   pub accepted-calls : (PairBits m × PairImage m image × Pair m x y) ↔ ((r : Result) × (pairRun m image x y ≡ accepted r))
   accepted-calls = (
     (λ call. (_, pair-answers m image x y (bits-test m .1 (call .0)) (call .1 .0) (pairs-read (call .1)) (pair-test m x y .1 (call .2)))),
     accepted-call,
   )
 
+  -- An answer is Run's, with one word read in each cell.
   pub accepted-run-answer : (r : Result) → pairRun m image x y ≡ accepted r → run image (pairIndex m x y) ≡ accepted r
   accepted-run-answer r =
       by-cases m image x y (λ a. a ≡ accepted r → run image (pairIndex m x y) ≡ accepted r)
@@ -133,6 +135,7 @@ module _ (m : ℕ) (image : List ℕ) (x y : ℕ) where
       let is : r ≡ runCard (cardOf commands) (pairIndex m x y) = cc (sym (accepted-run-answer r e) ∙ ran) in
       ap (λ s. s .words) is ∙ card-words (cardOf commands) (pairIndex m x y)
 
+  -- The calls that are turned away by m, and those by X and Y.
   pub refused-bits : (¬ PairBits m) ↔ (pairRun m image x y ≡ refused 16)
   refused-bits = (
     (λ outside. yes-or-no (isPairBits m) (λ b. absurd (outside (bits-test m .0 b))) (λ b. bits-refused m image x y b)),
@@ -175,8 +178,7 @@ module _ (m : ℕ) (bits : PairBits m) where
   pub other-thirteen : (n : ℕ) (offset : ℤ) → Variables n → TableValue offset → (rest : List ℕ) (x y : ℕ) → ¬ (n ≡ 2 * m) → pairRun m (commandBytes (Table n offset) ++ rest) x y ≡ refused 13
   other-thirteen n offset variables value rest x y other = image-refused m (commandBytes (Table n offset) ++ rest) x y (bits-test m .1 bits) 13 (other-n n offset variables value rest (2 * m) other)
 
--- An image that begins with n = 2m.
-
+-- An image that begins with n = 2m is run as ever.
 pub run-throughout : (m : ℕ) → PairBits m → (offset : ℤ) → TableValue offset → (rest : List ℕ) (x y : ℕ) → Pair m x y → pairRun m (commandBytes (Table (2 * m) offset) ++ rest) x y ≡ run (commandBytes (Table (2 * m) offset) ++ rest) (pairIndex m x y)
 unfolding Variables
 run-throughout m bits offset value rest x y pair = by-reading (readingFor (2 * m) image) refl

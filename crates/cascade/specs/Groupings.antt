@@ -76,5 +76,7 @@ widerFirst (a ∷ left) (b ∷ right) = ltb b a || eqb a b && widerFirst left ri
 pub record BestGrouping (n : ℕ) (table : List ℤ) (limit : ℕ) (best : List ℕ) : Type 0 where
   pub grouping : isGrouping n best ≡ true
   pub fitting : fits n table limit best ≡ true
-  pub least : (sizes : List ℕ) → isGrouping n sizes ≡ true → fits n table limit sizes ≡ true → cost n table best ≤ cost n table sizes
-  pub widest : (sizes : List ℕ) → isGrouping n sizes ≡ true → fits n table limit sizes ≡ true → cost n table sizes ≡ cost n table best → (sizes ≡ best) ⊎ (widerFirst best sizes ≡ true)
+  pub least : (sizes : List ℕ) → isGrouping n sizes ≡ true → fits n table limit sizes ≡ true
+      → cost n table best ≤ cost n table sizes
+  pub widest : (sizes : List ℕ) → isGrouping n sizes ≡ true → fits n table limit sizes ≡ true
+      → cost n table sizes ≡ cost n table best → (sizes ≡ best) ⊎ (widerFirst best sizes ≡ true)

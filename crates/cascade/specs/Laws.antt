@@ -10,5 +10,6 @@ pub mod Cells
 pub mod Lengths
 pub mod Planned
 pub mod WellFormed
-pub mod Theorems
+pub mod Compiled
+pub mod Commonest
 pub mod WordReading

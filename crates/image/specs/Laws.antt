@@ -12,9 +12,9 @@ pub mod Images
 pub mod Evaluating
 pub mod Held
 pub mod OtherWidths
+pub mod OlderImages
 pub mod Running
 pub mod Words
 pub mod Refusals
 pub mod ReadingFor
-pub mod Theorems
 pub mod Written

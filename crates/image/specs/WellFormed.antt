@@ -34,20 +34,36 @@ pub record KeepsWord (outgoing value : ℕ) (word : Word) : Type 0 where
   pub ranged : isWeight (word .weight) ≡ true
   pub grounded : value ≡ 0 → word .weight ≡ pos 0
 
--- A cell that begins with so many variables left and so many classes.
-pub record KeepsCell (left classes : ℕ) (cell : Cell) : Type 0 where
+-- A cell that begins with so many variables left and so many classes, with the width that a rule gives it.
+pub record KeepsCellBy (rule : Cell → ℕ) (left classes : ℕ) (cell : Cell) : Type 0 where
   pub shape : KeepsShape left classes (cell .group) (cell .incoming) (cell .outgoing)
   pub whole : length (cell .words) ≡ cell .incoming * 2 ^ cell .group
-  pub words : (j : ℕ) → j < length (cell .words) → KeepsWord (cell .outgoing) (j % 2 ^ cell .group) (getD (cell .words) j noWord)
-  pub width : cell .width ≡ weightWidth (weights (cell .words))
+  pub words : (j : ℕ) → j < length (cell .words)
+      → KeepsWord (cell .outgoing) (j % 2 ^ cell .group) (getD (cell .words) j noWord)
+  pub width : cell .width ≡ rule cell
 
 -- The cells from a cut down, with so many variables left and so many classes there.
-unfoldable pub KeepsCells : ℕ → ℕ → List Cell → Type 0
-KeepsCells left classes [] = left ≡ 0
-KeepsCells left classes (cell ∷ cells) = KeepsCell left classes cell × KeepsCells (left - cell .group) (cell .outgoing) cells
+unfoldable pub KeepsCellsBy : (Cell → ℕ) → ℕ → ℕ → List Cell → Type 0
+KeepsCellsBy rule left classes [] = left ≡ 0
+KeepsCellsBy rule left classes (cell ∷ cells) =
+    KeepsCellBy rule left classes cell × KeepsCellsBy rule (left - cell .group) (cell .outgoing) cells
 
--- A card that keeps every rule.
-pub record WellFormed (card : Card) : Type 0 where
+-- A card that keeps every rule of the reader, with the widths that a rule gives its cells.
+pub record WellFormedBy (rule : Cell → ℕ) (card : Card) : Type 0 where
   pub variables : isVariables (card .n) ≡ true
   pub offset : isValue (card .offset) ≡ true
-  pub cells : KeepsCells (card .n) 1 (card .cells)
+  pub cells : KeepsCellsBy rule (card .n) 1 (card .cells)
+
+-- The width that the reader asks of a cell: the weight width of its words.
+abbrev pub widthOf : Cell → ℕ
+widthOf cell = weightWidth (weights (cell .words))
+
+-- With these widths: a cell, the cells from a cut down, and a card that keeps every rule.
+abbrev pub KeepsCell : ℕ → ℕ → Cell → Type 0
+KeepsCell = KeepsCellBy widthOf
+
+abbrev pub KeepsCells : ℕ → ℕ → List Cell → Type 0
+KeepsCells = KeepsCellsBy widthOf
+
+abbrev pub WellFormed : Card → Type 0
+WellFormed = WellFormedBy widthOf

@@ -1,14 +1,14 @@
--- From Plan's promise to its planned cells.
-use Prim.Native.Nat.{ℕ, zero, suc, _+_, _≤_, _<_}
+-- Plan's planned cells and its arrays, and from its promise to the cells.
+use Prim.Native.Nat.{ℕ, zero, suc, _+_, _-_, _≤_, _<_}
 use mathlib.Core.Path.{_≡_, refl, sym, _∙_, ap, ap₂}
-use mathlib.Core.List.{List, [], _∷_, map}
+use mathlib.Core.List.{List, [], _∷_, _++_, map}
 use native.Mathlib.Nat.{add-zero, add-assoc}
 use native.Mathlib.Omega.{arith}
-use lib.ListN.{length, getD, take, drop, length-map, take-append-drop}
+use lib.ListN.{length, getD, take, drop, replicate, length-map, take-append-drop}
 use lib.Seq.{take-suc}
 use lib.IntN.{ℤ}
 use Rattle.numbers.specs.Answers.{Answer, accepted, refused, mapAnswer}
-use Rattle.numbers.specs.Lists.{sumOf}
+use Rattle.numbers.specs.Lists.{padded, sumOf}
 use Rattle.numbers.specs.Ranges.{mostVariables}
 use Rattle.numbers.specs.Laws.Padding.{length-padded, take-padded}
 use Rattle.numbers.specs.Laws.Tallies.{sum-append}
@@ -16,7 +16,7 @@ use Rattle.blocks.specs.Uses.{commonestAt}
 use Rattle.diagram.specs.Accepted.{Accepted}
 use Rattle.cascade.specs.Cascade.{cellOf}
 use Rattle.cascade.specs.Groupings.{cost}
-use Rattle.cascade.specs.Plan.{plan, planCell, planCells, noCell, entries, cellArray, Totals, totals, planAnswer, judgement, Plans}
+use Rattle.cascade.specs.Plan.{plan, planCell, planCells, noCell, entries, sizeArray, cellArray, Totals, totals, planAnswer, judgement, Plans}
 use Rattle.cascade.specs.Inner.Planned.{groups, PlannedAs, Chosen}
 use Rattle.cascade.specs.declared.Cell.{Cell}
 use Rattle.cascade.specs.declared.Planned.{Planned}
@@ -77,6 +77,22 @@ module _ {n : ℕ} {table : List ℤ} {sizes : List ℕ} {cells : List Cell} {co
   pub groups-are : groups cells count ≡ sizes
   unfolding groups
   groups-are = ap (map (λ cell. cell .group)) front ∙ groups-back n table 0 sizes
+
+-- ---- Plan's arrays
+
+-- A refusal has arrays of 0.
+pub arrays-refused : (n : ℕ) (table : List ℤ) (k : ℕ) → (sizeArray (refused k) ≡ replicate 12 0) × (cellArray n table (refused k) ≡ replicate 12 noCell)
+unfolding sizeArray cellArray entries padded mostVariables
+arrays-refused n table k = (refl, refl)
+
+pub no-cell : noCell ≡ record { group = 0; incoming = 0; outgoing = 0; width = 0; bits = 0; common = 0; uses = 0 }
+unfolding noCell
+no-cell = refl
+
+-- A grouping has its sizes and cells there, and 0 behind them.
+pub arrays-accepted : (n : ℕ) (table : List ℤ) (sizes : List ℕ) → (sizeArray (accepted sizes) ≡ sizes ++ replicate (12 - length sizes) 0) × (cellArray n table (accepted sizes) ≡ planCells n table 0 sizes ++ replicate (12 - length (planCells n table 0 sizes)) noCell)
+unfolding sizeArray cellArray entries padded mostVariables
+arrays-accepted n table sizes = (refl, refl)
 
 -- ---- from Plan's promise
 

@@ -13,7 +13,7 @@ use Rattle.numbers.specs.Laws.Bools.{both}
 use Rattle.blocks.specs.Classes.{classCount}
 use Rattle.blocks.specs.Laws.Classes.{one-class-at-top}
 use Rattle.diagram.specs.Accepted.{Accepted}
-use Rattle.image.specs.WellFormed.{noWord, weights, KeepsCell, KeepsCells, WellFormed}
+use Rattle.image.specs.WellFormed.{noWord, weights, KeepsCell, KeepsCellsBy, KeepsCells, WellFormed}
 use Rattle.cascade.specs.Cascade.{cellOf, cellsFrom, cardFor}
 use Rattle.cascade.specs.Groupings.{isGrouping}
 use Rattle.cascade.specs.Laws.Cells.{cell-words, cell-width, cell-outgoing, cell-address, cell-class-below, cell-weight-range, cell-weight-zero, bottom-outgoing, offset-in-range}
@@ -43,7 +43,7 @@ module _ (n : ℕ) (table : List ℤ) (accepted : Accepted n table) where
 
   -- The cells from cut h down.
   keeps-cells : (h : ℕ) (sizes : List ℕ) → every (leb 1) sizes ≡ true → h + sumOf sizes ≡ n → KeepsCells (n - h) (classCount n table h) (cellsFrom n table h sizes)
-  unfolding KeepsCells cellsFrom every sumOf cellOf
+  unfolding KeepsCellsBy cellsFrom every sumOf cellOf
   keeps-cells h [] some ends = omega arith
   keeps-cells h (g ∷ sizes) some ends =
       let parts = both (leb 1 g) (every (leb 1) sizes) some in (

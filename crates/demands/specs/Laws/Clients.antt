@@ -36,7 +36,7 @@ module _ (n : ℕ) (table : List ℤ) (limit : ℕ) (buffer : List ℕ) (r : Ima
   image-run x =
       yes-or-no (ltb x (2 ^ n))
       (λ l. compiled-runs n table limit buffer r compiled x (ltb-true x (2 ^ n) l) ∙ rw l)
-      (λ l. run-turns-x-away _ x .1 (_, (compiled-bits n table limit buffer r compiled .1, ltb-false x (2 ^ n) l)) ∙ rw l)
+      (λ l. run-turns-x-away _ x .0 (_, compiled-bits n table limit buffer r compiled .1, ltb-false x (2 ^ n) l) ∙ rw l)
 
   -- Expand on it, for every buffer.
   pub image-expand : (places : ℕ) → expand (compiledImage r (compileBuffer n table limit buffer)) places ≡ unless (eqb places (2 ^ n)) 2 (accepted table)
@@ -44,7 +44,7 @@ module _ (n : ℕ) (table : List ℤ) (limit : ℕ) (buffer : List ℕ) (r : Ima
   image-expand places =
       yes-or-no (eqb places (2 ^ n))
       (λ l. ap (expand (compiledImage r (compileBuffer n table limit buffer))) (eqb-true places (2 ^ n) l) ∙ compiled-expands n table limit buffer r compiled ∙ rw l)
-      (λ l. expand-turns-length-away _ places .1 (_, (compiled-bits n table limit buffer r compiled .1, eqb-false places (2 ^ n) l)) ∙ rw l)
+      (λ l. expand-turns-length-away _ places .0 (_, compiled-bits n table limit buffer r compiled .1, eqb-false places (2 ^ n) l) ∙ rw l)
 
 module _ (n : ℕ) (table : List ℤ) (limit : ℕ) (buffer : List ℕ) (c : Compiled) (buffer′ : List ℕ) (compiles : Compiles n table limit buffer c buffer′) where
   -- Compile gave an image.

@@ -18,7 +18,7 @@ use Rattle.image.specs.Cells.{bitsOf, totalBits}
 use Rattle.image.specs.Commands.{wordCommand, cellCommands}
 use Rattle.image.specs.Reader.{keepsRules, placeAfter, widthIsLeast}
 use Rattle.image.specs.Reader as reader
-use Rattle.image.specs.WellFormed.{noWord, weights, KeepsWord, KeepsCells}
+use Rattle.image.specs.WellFormed.{noWord, weights, KeepsWord, KeepsCellsBy, KeepsCells}
 use Rattle.image.specs.Laws.Due.{Tells, told, due-word, due-cell, due-end}
 use Rattle.image.specs.Laws.Rules.{shape-test, shape-facts, word-test, word-facts}
 use Rattle.image.specs.Laws.Standing.{May, Allowed, last, more}
@@ -104,7 +104,7 @@ cellCommand cell = Cell (cell .group) (cell .incoming) (cell .outgoing) (cell .w
 
 module _ (p : Place) (cell : cells.Cell) (below : List cells.Cell) where
   pub cell-may : Coming p [] (cell ∷ below) → May p (cellCommand cell)
-  unfolding KeepsCells kindOf weights lowest highest
+  unfolding KeepsCellsBy kindOf weights lowest highest
   cell-may c =
       let shape = c .rest .0 .shape in
       let some = shape .some in
@@ -116,7 +116,7 @@ module _ (p : Place) (cell : cells.Cell) (below : List cells.Cell) where
       }
 
   pub cell-coming : Coming p [] (cell ∷ below) → Coming (placeAfter p (cellCommand cell)) (cell .words) below
-  unfolding KeepsCells placeAfter
+  unfolding KeepsCellsBy placeAfter
   cell-coming c =
       let k = c .rest .0 in
       record {
@@ -128,7 +128,7 @@ module _ (p : Place) (cell : cells.Cell) (below : List cells.Cell) where
       }
 
   pub cell-back : May p (cellCommand cell) → Coming (placeAfter p (cellCommand cell)) (cell .words) below → Coming p [] (cell ∷ below)
-  unfolding KeepsCells placeAfter kindOf Tells weights lowest highest
+  unfolding KeepsCellsBy placeAfter kindOf Tells weights lowest highest
   cell-back m c =
       let facts = told p reader.cell (m .allowed) in
       let shape = shape-facts p (cell .group) (cell .incoming) (cell .outgoing) (cell .width) (m .rules) in
@@ -153,7 +153,7 @@ module _ (p : Place) (cell : cells.Cell) (below : List cells.Cell) where
 
 module _ (p : Place) where
   pub end-may : Coming p [] [] → May p (End (p .bits + totalBits []))
-  unfolding KeepsCells kindOf weights lowest highest keepsRules totalBits sumOf
+  unfolding KeepsCellsBy kindOf weights lowest highest keepsRules totalBits sumOf
   end-may c =
       record {
         width = width-here p (sym (c .count)) ∙ eq-eqb (p .width) (weightWidth (p .least ∷ p .greatest ∷ [])) (c .width);
@@ -162,7 +162,7 @@ module _ (p : Place) where
       }
 
   pub end-back : (bits : ℕ) → May p (End bits) → Coming p [] [] × (bits ≡ p .bits)
-  unfolding KeepsCells kindOf Tells weights lowest highest keepsRules
+  unfolding KeepsCellsBy kindOf Tells weights lowest highest keepsRules
   end-back bits m =
       let facts = told p reader.end (m .allowed) in (
         record {

@@ -23,7 +23,7 @@ use Rattle.image.specs.Commands.{wordCommand, cellCommands, cardCommands
 use Rattle.image.specs.Inner.Evaluation.{Accepted, cardIn, cardRead, resultSoFar, firstProgress, groupAhead, wordPlace, nextPlace, cellRead, CellAhead}
 use Rattle.image.specs.Reader.{dueSize, commandAt}
 use Rattle.image.specs.Run.{Result, wordAt, groupValue, runFrom, runCard}
-use Rattle.image.specs.WellFormed.{noWord, KeepsCell, KeepsCells}
+use Rattle.image.specs.WellFormed.{noWord, KeepsCell, KeepsCellsBy, KeepsCells}
 use Rattle.image.specs.Laws.Bounds.{variables-most}
 use Rattle.image.specs.Laws.Images.{reading-standing, commands-of-card, card-keeps}
 use Rattle.image.specs.Laws.Standing.{Stands, Standing, standing-count}
@@ -147,7 +147,7 @@ module _ (image : List ℕ) (x : ℕ) (p : Progress) (a : CellAhead image x p) w
 
 -- Where variables are left, a cell is.
 no-cells {ℓ} : {X : Type ℓ} (left classes : ℕ) → KeepsCells left classes [] → 0 < left → X
-unfolding KeepsCells
+unfolding KeepsCellsBy
 no-cells left classes k h = absurd (omega arith)
 
 small-sum : (value weight : ℤ) (words : ℕ) → mag value ≤ 8388608 + words * 16777216 → mag weight ≤ 16777215 → mag (value +ℤ weight) ≤ 8388608 + (words + 1) * 16777216
@@ -160,7 +160,7 @@ module _ (image : List ℕ) (x : ℕ) (result : Result) (p : Progress) where
       → CellAhead image x p × Evaluating image x result (cellRead image x p)
 
   ahead : (below : List cells.Cell) → Ahead below
-  unfolding KeepsCells runFrom resultSoFar cellRead wordAt mostVariables noWord
+  unfolding KeepsCellsBy runFrom resultSoFar cellRead wordAt mostVariables noWord
   ahead [] classes bits keeps known count small stands leads some = no-cells (p .left) classes keeps some
   ahead (cell ∷ below) classes bits keeps known count small stands leads some =
       let k = keeps .0 in
@@ -206,7 +206,7 @@ module _ (image : List ℕ) (x : ℕ) (result : Result) (p : Progress) where
   cell-takes a = let s = a .some in let t = a .inside in omega arith
 
   all-cells : (below : List cells.Cell) (classes : ℕ) → KeepsCells (p .left) classes below → p .left ≡ 0 → runFrom (p .left) below x (p .class) (resultSoFar p) ≡ resultSoFar p
-  unfolding runFrom KeepsCells
+  unfolding runFrom KeepsCellsBy
   all-cells [] classes k e = refl
   all-cells (cell ∷ below) classes k e = let s = k .0 .shape .some in let t = k .0 .shape .inside in absurd (omega arith)
 

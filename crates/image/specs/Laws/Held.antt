@@ -18,7 +18,7 @@ use Rattle.image.specs.Cells as cells
 use Rattle.image.specs.Cells.{Card, bitsOf, totalBits}
 use Rattle.image.specs.Commands.{wordCommand, cellCommands, cardCommands}
 use Rattle.image.specs.Reader.{mostClasses}
-use Rattle.image.specs.WellFormed.{noWord, weights, KeepsCell, KeepsCells, WellFormed}
+use Rattle.image.specs.WellFormed.{noWord, weights, KeepsCell, KeepsCellsBy, KeepsCells, WellFormed}
 use Rattle.image.specs.Laws.Bounds.{variables-most, cell-bits-most}
 use Rattle.image.specs.Laws.Images.{Holds, AllHold}
 use Rattle.image.specs.declared.Command.{Command}
@@ -76,14 +76,14 @@ module _ (left classes : ℕ) (cell : cells.Cell) (k : KeepsCell left classes ce
       )
 
 cells-hold : (below : List cells.Cell) (left classes : ℕ) → left ≤ mostVariables → classes ≤ mostClasses → KeepsCells left classes below → AllHold (flatMap cellCommands below)
-unfolding KeepsCells flatMap AllHold
+unfolding KeepsCellsBy flatMap AllHold
 cells-hold [] left classes l h k = tt
 cells-hold (cell ∷ below) left classes l h k =
     all-append (cellCommands cell) (flatMap cellCommands below) (cell-holds left classes cell (k .0) l h) (cells-hold below (left - cell .group) (cell .outgoing) (omega arith) (k .0 .shape .most) (k .1))
 
 -- The memory bits of all cells together.
 pub bits-small : (below : List cells.Cell) (left classes : ℕ) → classes ≤ mostClasses → KeepsCells left classes below → totalBits below ≤ left * mostBits
-unfolding KeepsCells totalBits bitsOf sumOf mostBits
+unfolding KeepsCellsBy totalBits bitsOf sumOf mostBits
 bits-small [] left classes h k = omega arith
 bits-small (cell ∷ below) left classes h k =
     let here = cell-bits-most (cell .incoming) (cell .group) (cell .outgoing) (cell .width) (cell-of left classes cell (k .0) h) in

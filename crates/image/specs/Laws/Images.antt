@@ -53,6 +53,10 @@ module _ (image : List ℕ) (commands : List Command) (h : reading image ≡ acc
   pub card-keeps : WellFormed (cardOf commands)
   card-keeps = allowed-card commands reading-allowed .1
 
+-- Images with the same commands are the same.
+pub one-image : (first second : List ℕ) (commands : List Command) → AreBytes first → AreBytes second → reading first ≡ accepted commands → reading second ≡ accepted commands → first ≡ second
+one-image first second commands f s p q = image-of-commands first commands p f ∙ sym (image-of-commands second commands q s)
+
 -- ---- from a card that keeps the rules to its reading
 
 -- Operands that their bytes hold.

@@ -1,9 +1,8 @@
 -- A cell that is written with another width than its weights have is refused with 13 after its last word, whatever follows.
 use Prim.Native.Nat.{ℕ, zero, suc, _+_, _-_, _≤_, _<_}
-use mathlib.Core.Path.{_≡_, refl, sym, _∙_, ap, ap₂, subst}
+use mathlib.Core.Path.{_≡_, refl, sym, _∙_, ap, subst}
 use mathlib.Core.Bool.{false}
 use mathlib.Core.List.{List, [], _∷_, _++_, map, flatMap, append-assoc, append-nil}
-use native.Mathlib.Decide.{ℕ-discrete}
 use native.Mathlib.Omega.{arith}
 use lib.ListN.{length, drop, length-append, length-drop}
 use borrow.Author.Tests.{lt-ltb, ne-eqb}
@@ -11,26 +10,24 @@ use Rattle.numbers.specs.Answers.{refused, andThen, mapAnswer}
 use Rattle.numbers.specs.Extremes.{lowest, highest}
 use Rattle.numbers.specs.Ranges.{mostVariables}
 use Rattle.numbers.specs.Widths.{weightWidth}
-use Rattle.numbers.specs.Laws.Lists.{map-append}
-use Rattle.numbers.specs.Laws.Selections.{flatMap-append}
 use Rattle.image.specs.Inner.Kinds.{kindOf, isEnd}
 use Rattle.image.specs.Cells as cells
-use Rattle.image.specs.Cells.{Card, totalBits}
-use Rattle.image.specs.Commands.{commandBytes, wordCommand, cellCommands, cardCommands, imageOf}
-use Rattle.image.specs.OlderWidths.{withWidth, olderWidth, olderCard, imageTo}
+use Rattle.image.specs.Cells.{Card}
+use Rattle.image.specs.Commands.{commandBytes, wordCommand, cellCommands, cardCommands}
+use Rattle.image.specs.OlderWidths.{withWidth, imageTo}
 use Rattle.image.specs.Reader.{due, dueSize, keepsRules, placeAfter, widthIsLeast, followedBy, readFrom, reading, start, mostClasses}
-use Rattle.image.specs.WellFormed.{weights, KeepsCells, WellFormed}
+use Rattle.image.specs.WellFormed.{weights, KeepsCellsBy, KeepsCells, WellFormed}
 use Rattle.image.specs.Laws.Bounds.{variables-most}
 use Rattle.image.specs.Laws.Cards.{table-may, first-coming}
 use Rattle.image.specs.Laws.Coming.{Coming, cellCommand, width-here, word-may, word-coming, cell-may, cell-coming}
 use Rattle.image.specs.Laws.Due.{ends-well-before}
-use Rattle.image.specs.Laws.Held.{signed-small, all-append, cell-holds, card-holds}
+use Rattle.image.specs.Laws.Held.{all-append, cell-holds, card-holds}
 use Rattle.image.specs.Laws.Images.{Holds, AllHold, length-bytes, bytes-stand}
 use Rattle.image.specs.Laws.Reading.{followed-on, size-some}
 use Rattle.image.specs.Laws.Standing.{May, Stands, after-at, step-back}
 use Rattle.image.specs.Laws.Steps.{step-wide}
 use Rattle.image.specs.declared.Command.{Command}
-use Rattle.image.specs.declared.Command.the-variants.{Table, End}
+use Rattle.image.specs.declared.Command.the-variants.{Table}
 use Rattle.image.specs.declared.Place.{Place}
 
 -- ---- commands in front of other bytes
@@ -138,7 +135,7 @@ module _ (image : List ℕ) where
 
 -- The operands of the cells up to one with another width are held by their bytes.
 cells-held : (before : List cells.Cell) (cell : cells.Cell) (after : List cells.Cell) (width left classes : ℕ) → width < 256 → left ≤ mostVariables → classes ≤ mostClasses → KeepsCells left classes (before ++ cell ∷ after) → AllHold (flatMap cellCommands (before ++ withWidth width cell ∷ []))
-unfolding KeepsCells flatMap AllHold Holds cellCommands withWidth
+unfolding KeepsCellsBy flatMap AllHold Holds cellCommands withWidth
 cells-held [] cell after width left classes narrow l h k =
     let own = cell-holds left classes cell (k .0) l h in
     all-append (cellCommands (withWidth width cell)) [] ((own .0 .0, (own .0 .1 .0, (own .0 .1 .1 .0, narrow))), own .1) tt
@@ -161,80 +158,3 @@ other-width card w before cell after parts width narrow other rest =
     (cells-refused image cell width other after before _ (first-coming (card .n) (card .offset) (w .variables) (before ++ cell ∷ after) keeps))
     front (suc (length image))
     (let c = front-count image 0 commands (omega arith) front in omega arith)
-
--- ---- the older rule
-
-abbrev older : cells.Cell → cells.Cell
-older cell = withWidth (olderWidth cell) cell
-
-older-same : (cell : cells.Cell) → olderWidth cell ≡ cell .width → older cell ≡ cell
-unfolding withWidth
-older-same cell e = ap (λ width. withWidth width cell) e
-
--- Cells up to the first whose width is another by the older rule.
-record FirstOther (all : List cells.Cell) : Type 0 where
-  before : List cells.Cell
-  cell : cells.Cell
-  after : List cells.Cell
-  parts : all ≡ before ++ cell ∷ after
-  agree : map older before ≡ before
-  other : olderWidth cell ≡ cell .width → ⊥
-
-first-other : (before : List cells.Cell) (cell : cells.Cell) (after : List cells.Cell) → (olderWidth cell ≡ cell .width → ⊥) → FirstOther (before ++ cell ∷ after)
-first-other [] cell after other = record { before = []; cell = cell; after = after; parts = refl; agree = refl; other = other }
-first-other (first ∷ before) cell after other = here-or-later (first-other before cell after other) (ℕ-discrete (olderWidth first) (first .width))
-  where
-    here-or-later : FirstOther (before ++ cell ∷ after) → Dec (olderWidth first ≡ first .width) → FirstOther (first ∷ before ++ cell ∷ after)
-    here-or-later later (yes e) =
-        record {
-          before = first ∷ later .before;
-          cell = later .cell;
-          after = later .after;
-          parts = ap (λ l. first ∷ l) (later .parts);
-          agree = ap₂ (λ a l. a ∷ l) (older-same first e) (later .agree);
-          other = later .other;
-        }
-    here-or-later later (no differs) = record { before = []; cell = first; after = before ++ cell ∷ after; parts = refl; agree = refl; other = differs }
-
--- One byte holds the older width of each cell that keeps the rules.
-older-narrow : (before : List cells.Cell) (cell : cells.Cell) (after : List cells.Cell) (left classes : ℕ) → KeepsCells left classes (before ++ cell ∷ after) → olderWidth cell < 256
-unfolding KeepsCells olderWidth
-older-narrow [] cell after left classes k = let s = signed-small (cell .words) (λ j l. k .0 .words j l .ranged) in omega arith
-older-narrow (first ∷ before) cell after left classes k = older-narrow before cell after (left - first .group) (first .outgoing) (k .1)
-
--- The bytes of an older image up to that cell, and those behind it.
-older-bytes : (card : Card) (found : FirstOther (card .cells)) → imageOf (olderCard card) ≡ imageTo card (found .before ++ older (found .cell) ∷ []) ++ flatMap commandBytes (flatMap cellCommands (map older (found .after)) ++ End (totalBits (olderCard card .cells)) ∷ [])
-unfolding imageOf cardCommands olderCard imageTo
-older-bytes card found =
-    let front = found .before ++ older (found .cell) ∷ [] in
-    let back = map older (found .after) in
-    let end = End (totalBits (map older (card .cells))) ∷ [] in
-    let parted : map older (card .cells) ≡ front ++ back =
-    ap (map older) (found .parts)
-    ∙ map-append older (found .before) (found .cell ∷ found .after)
-    ∙ ap (λ l. l ++ older (found .cell) ∷ back) (found .agree)
-    ∙ sym (append-assoc (found .before) (older (found .cell) ∷ []) back) in
-    ap (λ l. flatMap commandBytes (Table (card .n) (card .offset) ∷ l))
-    (ap (λ l. flatMap cellCommands l ++ end) parted
-    ∙ ap (λ l. l ++ end) (flatMap-append cellCommands front back)
-    ∙ append-assoc (flatMap cellCommands front) (flatMap cellCommands back) end)
-    ∙ flatMap-append commandBytes (Table (card .n) (card .offset) ∷ flatMap cellCommands front) (flatMap cellCommands back ++ end)
-
--- Where a cell's width is another by the older rule, the older image is refused with 13.
-pub older-image : (card : Card) → WellFormed card → (before : List cells.Cell) (cell : cells.Cell) (after : List cells.Cell) → card .cells ≡ before ++ cell ∷ after → (olderWidth cell ≡ cell .width → ⊥) → reading (imageOf (olderCard card)) ≡ refused 13
-older-image card w before cell after parts other =
-    let found : FirstOther (card .cells) = subst FirstOther (sym parts) (first-other before cell after other) in
-    let narrow = older-narrow (found .before) (found .cell) (found .after) (card .n) 1 (subst (KeepsCells (card .n) 1) (found .parts) (w .cells)) in
-    ap reading (older-bytes card found)
-    ∙ other-width card w (found .before) (found .cell) (found .after) (found .parts) (olderWidth (found .cell)) narrow (found .other) _
-
--- Where none is, it is the image itself.
-older-cells : (all : List cells.Cell) → ((before : List cells.Cell) (cell : cells.Cell) (after : List cells.Cell) → all ≡ before ++ cell ∷ after → olderWidth cell ≡ cell .width) → map older all ≡ all
-older-cells [] h = refl
-older-cells (first ∷ all) h =
-    ap₂ (λ a l. a ∷ l) (older-same first (h [] first all refl))
-    (older-cells all (λ before cell after e. h (first ∷ before) cell after (ap (λ l. first ∷ l) e)))
-
-pub older-stays : (card : Card) → ((before : List cells.Cell) (cell : cells.Cell) (after : List cells.Cell) → card .cells ≡ before ++ cell ∷ after → olderWidth cell ≡ cell .width) → olderCard card ≡ card
-unfolding olderCard
-older-stays card h = ap (λ all. record { n = card .n; offset = card .offset; cells = all }) (older-cells (card .cells) h)

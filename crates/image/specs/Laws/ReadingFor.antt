@@ -13,14 +13,15 @@ use Rattle.numbers.specs.Answers.{Answer, accepted, refused, unless, andThen}
 use Rattle.numbers.specs.Laws.Answers.{not-refused, unless-accepted, unless-refused}
 use Rattle.numbers.specs.Laws.Bools.{yes-or-no, both}
 use Rattle.numbers.specs.Laws.Bounds.{value-mag}
-use Rattle.numbers.specs.Ranges.{isVariables, isValue, mostVariables}
+use Rattle.numbers.specs.Laws.Tests.{variables-test, value-test}
+use Rattle.numbers.specs.Conditions.{Variables, TableValue}
+use Rattle.numbers.specs.Ranges.{isVariables, isValue}
 use Rattle.operands.specs.Bytes.{unsignedAt, signedAt}
 use Rattle.operands.specs.Laws.Operands.{unsigned-one}
 use Rattle.image.specs.Commands.{commandBytes, cardCommands, cardOf}
 use Rattle.image.specs.Inner.GivenN.{hasOtherN}
 use Rattle.image.specs.Inner.Kinds.{kindOf, isEnd}
 use Rattle.image.specs.Reader.{dueByte, dueSize, commandAt, keepsRules, placeAfter, endsWell, judged, step, readFrom, start, reading, readingFor}
-use Rattle.image.specs.Laws.Bounds.{variables-most}
 use Rattle.image.specs.Laws.Cards.{start-width, start-due, table-may}
 use Rattle.image.specs.Laws.Due.{ends-well-before}
 use Rattle.image.specs.Laws.Images.{Holds, length-bytes, bytes-stand, reading-standing, commands-of-card, card-keeps}
@@ -108,25 +109,30 @@ step-table : (image : List ℕ) (n : ℕ) (offset : ℤ) → isVariables n ≡ t
 unfolding start isEnd
 step-table image n offset v o s = step-back image start (Table n offset) (table-may n offset v o) s (ends-well-before image start (Table n offset) refl)
 
-module _ (n : ℕ) (offset : ℤ) (v : isVariables n ≡ true) (o : isValue offset ≡ true) (rest : List ℕ) where
-  table-stands : Stands (commandBytes (Table n offset) ++ rest) 0 (Table n offset)
-  unfolding Holds mostVariables kindOf dueSize
+module _ (n : ℕ) (offset : ℤ) (variables : Variables n) (value : TableValue offset) (rest : List ℕ) where
+  abbrev image : List ℕ
+  image = commandBytes (Table n offset) ++ rest
+
+  table-stands : Stands image 0 (Table n offset)
+  unfolding Holds kindOf dueSize Variables
   table-stands =
-      let most = variables-most n v .1 in
-      let small = value-mag offset o in
+      let small = value-mag offset (value-test offset .1 value) in
       let size = length-append (commandBytes (Table n offset)) rest in
       let own = length-bytes (Table n offset) in
-      bytes-stand (commandBytes (Table n offset) ++ rest) 0 (Table n offset) rest (omega arith, record { sfits = omega arith }) (omega arith) refl .0
+      bytes-stand image 0 (Table n offset) rest (omega arith, record { sfits = omega arith }) (omega arith) refl .0
+
+  table-read : step image start ≡ accepted (Table n offset, placeAfter start (Table n offset))
+  table-read = step-table image n offset (variables-test n .1 variables) (value-test offset .1 value) table-stands
 
   -- An image that begins with another n.
-  pub other-n : (given : ℕ) → (n ≡ given → ⊥) → readingFor given (commandBytes (Table n offset) ++ rest) ≡ refused 13
+  pub other-n : (given : ℕ) → ¬ (n ≡ given) → readingFor given image ≡ refused 13
   unfolding placeAfter
-  other-n given other = first-other given (commandBytes (Table n offset) ++ rest) (Table n offset) (placeAfter start (Table n offset)) (step-table (commandBytes (Table n offset) ++ rest) n offset v o table-stands) other
+  other-n given other = first-other given image _ _ table-read other
 
   -- One that begins with this n.
-  pub own-n : readingFor n (commandBytes (Table n offset) ++ rest) ≡ reading (commandBytes (Table n offset) ++ rest)
+  pub own-n : readingFor n image ≡ reading image
   unfolding placeAfter
-  own-n = first-same n (commandBytes (Table n offset) ++ rest) (Table n offset) (placeAfter start (Table n offset)) (step-table (commandBytes (Table n offset) ++ rest) n offset v o table-stands) refl
+  own-n = first-same n image _ _ table-read refl
 
 -- ---- an accepted image
 
@@ -154,12 +160,12 @@ module _ (n : ℕ) (image : List ℕ) where
   by-first commands (accepted s) h = unless-accepted (eqb (s .1 .n) n) 13 (reading image) commands h .1
   by-first commands (refused k) h = absurd (let z : _≡_ {A = ℕ} 0 1 = cc in omega arith)
 
-  pub for-accepted : (commands : List Command) → (readingFor n image ≡ accepted commands) ↔ ((reading image ≡ accepted commands) × (cardOf commands .n ≡ n))
+  pub for-accepted : (commands : List Command) → ((reading image ≡ accepted commands) × (cardOf commands .n ≡ n)) ↔ (readingFor n image ≡ accepted commands)
   unfolding readingFor
-  for-accepted commands = (to, λ s. subst (λ k. readingFor k image ≡ accepted commands) (s .1) (accepted-for image commands (s .0)))
+  for-accepted commands = ((λ s. subst (λ k. readingFor k image ≡ accepted commands) (s .1) (accepted-for image commands (s .0))), back)
     where
-      to : readingFor n image ≡ accepted commands → (reading image ≡ accepted commands) × (cardOf commands .n ≡ n)
-      to h =
+      back : readingFor n image ≡ accepted commands → (reading image ≡ accepted commands) × (cardOf commands .n ≡ n)
+      back h =
           let read = by-first commands (step image start) h in (
             read,
             yes-or-no (eqb (cardOf commands .n) n)
@@ -169,7 +175,6 @@ module _ (n : ℕ) (image : List ℕ) where
 
   -- Its refusals have the reader's numbers.
   first-number : (first : Answer (Command × Place)) → ((k : ℕ) → first ≡ refused k → OfImage k) → (k : ℕ) → andThen first (λ s. unless (eqb (s .1 .n) n) 13 (reading image)) ≡ refused k → OfImage k
-  unfolding OfImage
   first-number (refused j) here k h = here k (ap refused (let e : j ≡ k = cc in e))
   first-number (accepted s) here k h = unless-refused OfImage (eqb (s .1 .n) n) 13 (reading image) (omega arith, omega arith) (reading-number image) k h
 

@@ -24,18 +24,18 @@ use Rattle.image.specs.declared.Place.{Place}
 -- ---- the numbers of the reader
 
 -- The numbers of the reader: 11 to 14.
-unfoldable pub OfImage : ℕ → Type 0
+abbrev pub OfImage : ℕ → Type 0
 OfImage k = (11 ≤ k) × (k ≤ 14)
 
 judged-number : (image : List ℕ) (p : Place) (c : Command) (k : ℕ) → judged image p c ≡ refused k → OfImage k
-unfolding judged OfImage
+unfolding judged
 judged-number image p c =
     unless-refused OfImage (keepsRules p c) 13 (unless (endsWell image p c) 14 (accepted (c, placeAfter p c))) (omega arith, omega arith)
     (unless-refused OfImage (endsWell image p c) 14 (accepted (c, placeAfter p c)) (omega arith, omega arith)
     (λ k h. not-refused (c, placeAfter p c) k h))
 
 pub step-number : (image : List ℕ) (p : Place) (k : ℕ) → step image p ≡ refused k → OfImage k
-unfolding step OfImage
+unfolding step
 step-number image p =
     unless-refused OfImage (widthIsLeast p) 13 there (omega arith, omega arith)
     (unless-refused OfImage (ltb (p .at) (length image)) 11 known (omega arith, omega arith)
@@ -63,7 +63,7 @@ by-step after later (accepted s) here k h =
     (λ e. later (s .1) k (map-refused (λ l. s .0 ∷ l) (after (s .1)) k (sym (followed-on (s .0) (after (s .1)) e) ∙ h)))
 
 from-number : (steps : ℕ) (image : List ℕ) (p : Place) (k : ℕ) → readFrom steps image p ≡ refused k → OfImage k
-unfolding readFrom OfImage
+unfolding readFrom
 from-number zero image p k h = let e : 11 ≡ k = cc in (omega arith, omega arith)
 from-number (suc steps) image p k h = by-step (readFrom steps image) (from-number steps image) (step image p) (step-number image p) k h
 
@@ -79,30 +79,29 @@ module _ {A : Type 0} (test : List Command → Bool) (value : List Command → A
   abbrev Tested : Answer (List Command) → Answer A
   Tested answer = andThen answer (λ commands. unless (test commands) number (accepted (value commands)))
 
-  own-refusal : (image : List ℕ) (answer : Answer (List Command)) → reading image ≡ answer → Tested answer ≡ refused number → (commands : List Command) × ((reading image ≡ accepted commands) × (test commands ≡ false))
-  unfolding OfImage
-  own-refusal image (accepted commands) e h = (commands, (e, test-fails (test commands) number (value commands) number h))
+  own-refusal : (image : List ℕ) (answer : Answer (List Command)) → reading image ≡ answer → Tested answer ≡ refused number → (commands : List Command) × (reading image ≡ accepted commands) × (test commands ≡ false)
+  own-refusal image (accepted commands) e h = (commands, e, test-fails (test commands) number (value commands) number h)
   own-refusal image (refused k) e h = let n = reading-number image k e in let same : k ≡ number = cc in absurd (omega arith)
 
-  pub refuses-itself : (image : List ℕ) → (Tested (reading image) ≡ refused number) ↔ ((commands : List Command) × ((reading image ≡ accepted commands) × (test commands ≡ false)))
-  refuses-itself image = (own-refusal image (reading image) refl, λ s. rw (s .1 .0, s .1 .1))
+  refuses-itself : (image : List ℕ) → ((commands : List Command) × (reading image ≡ accepted commands) × (test commands ≡ false)) ↔ (Tested (reading image) ≡ refused number)
+  refuses-itself image = ((λ s. rw (s .1, s .2)), own-refusal image (reading image) refl)
 
 -- Run: X is not below 2^n.
-pub run-refuses : (image : List ℕ) (x : ℕ) → (run image x ≡ refused 7) ↔ ((commands : List Command) × ((reading image ≡ accepted commands) × (2 ^ cardOf commands .n ≤ x)))
+pub run-refuses : (image : List ℕ) (x : ℕ) → ((commands : List Command) × (reading image ≡ accepted commands) × (2 ^ cardOf commands .n ≤ x)) ↔ (run image x ≡ refused 7)
 unfolding run
 run-refuses image x =
     let i = refuses-itself (λ commands. ltb x (2 ^ cardOf commands .n)) (λ commands. runCard (cardOf commands) x) 7 (omega arith) image in (
-      (λ h. let s = i .0 h in (s .0, (s .1 .0, ltb-false x (2 ^ cardOf (s .0) .n) (s .1 .1)))),
-      (λ s. i .1 (s .0, (s .1 .0, le-ltb x (2 ^ cardOf (s .0) .n) (s .1 .1)))),
+      (λ s. i .0 (s .0, s .1, le-ltb x (2 ^ cardOf (s .0) .n) (s .2))),
+      (λ h. let s = i .1 h in (s .0, s .1, ltb-false x (2 ^ cardOf (s .0) .n) (s .2))),
     )
 
 -- Expand: the buffer's length is not 2^n.
-pub expand-refuses : (image : List ℕ) (room : ℕ) → (expand image room ≡ refused 2) ↔ ((commands : List Command) × ((reading image ≡ accepted commands) × (room ≡ 2 ^ cardOf commands .n → ⊥)))
+pub expand-refuses : (image : List ℕ) (room : ℕ) → ((commands : List Command) × (reading image ≡ accepted commands) × (¬ (room ≡ 2 ^ cardOf commands .n))) ↔ (expand image room ≡ refused 2)
 unfolding expand
 expand-refuses image room =
     let i = refuses-itself (λ commands. eqb room (2 ^ cardOf commands .n)) (λ commands. cardValues (cardOf commands)) 2 (omega arith) image in (
-      (λ h. let s = i .0 h in (s .0, (s .1 .0, eqb-false room (2 ^ cardOf (s .0) .n) (s .1 .1)))),
-      (λ s. i .1 (s .0, (s .1 .0, ne-eqb room (2 ^ cardOf (s .0) .n) (s .1 .1)))),
+      (λ s. i .0 (s .0, s .1, ne-eqb room (2 ^ cardOf (s .0) .n) (s .2))),
+      (λ h. let s = i .1 h in (s .0, s .1, eqb-false room (2 ^ cardOf (s .0) .n) (s .2))),
     )
 
 -- ---- Expand's buffer

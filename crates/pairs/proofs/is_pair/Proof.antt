@@ -3,12 +3,12 @@ use Prim.Native.Nat.{_^_}
 use native.Mathlib.Omega.{arith}
 use borrow.Author.Tests.{lt-ltb, le-ltb}
 use Rattle.pairs.specs.Pairs.{isPair}
-use Rattle.pairs.specs.Laws.Answers.{inside-bits}
+use Rattle.pairs.specs.Laws.Answers.{bits-test}
 use Rattle.pairs.proofs.is_pair.Statement.{statement}
 use Rattle.pairs.proofs.is_pair.Tie as tie
 
 power-requires : tie.Need-power-requires
-power-requires c κs = let most = inside-bits (c .args .m) (c .pre) .1 in omega arith
+power-requires c κs = let most = bits-test (c .args .m) .0 (c .pre) .1 in omega arith
 
 returns : tie.Need-returns
 unfolding isPair

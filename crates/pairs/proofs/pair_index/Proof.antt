@@ -4,7 +4,7 @@ use mathlib.Core.Path.{sym, ap, subst}
 use native.Mathlib.Omega.{arith}
 use lib.Pow.{pow-mono}
 use Rattle.pairs.specs.Pairs.{pairIndex}
-use Rattle.pairs.specs.Laws.Answers.{inside-bits, inside-pair}
+use Rattle.pairs.specs.Laws.Answers.{bits-test, pair-test}
 use Rattle.pairs.specs.Laws.Indices.{product-small}
 use Rattle.pairs.proofs.pair_index.Statement.{statement}
 use Rattle.pairs.proofs.pair_index.Tie as tie
@@ -15,11 +15,11 @@ module _ (c : tie.After-power) where
   start = c .before
 
   few : start .args .m ≤ 6
-  few = inside-bits (start .args .m) (start .pre .0) .1
+  few = bits-test (start .args .m) .0 (start .pre .0) .1
 
   below : (start .args .x < 64) × (start .args .y < 64)
   below =
-      let inside = inside-pair (start .args .m) (start .args .x) (start .args .y) (start .pre .1) in
+      let inside = pair-test (start .args .m) (start .args .x) (start .args .y) .0 (start .pre .1) in
       let side : 2 ^ start .args .m ≤ 2 ^ 6 = pow-mono {i = start .args .m} {j = 6} few in
       let x = inside .0 in
       let y = inside .1 in
@@ -27,12 +27,12 @@ module _ (c : tie.After-power) where
 
   small : (c .power .result * start .args .x ≤ 4096) × (c .power .result * start .args .y ≤ 4096)
   small =
-      let inside = inside-pair (start .args .m) (start .args .x) (start .args .y) (start .pre .1) in
+      let inside = pair-test (start .args .m) (start .args .x) (start .args .y) .0 (start .pre .1) in
       subst (λ p. (p * start .args .x ≤ 4096) × (p * start .args .y ≤ 4096)) (sym (c .power .ensures))
       (product-small (start .args .m) few (start .args .x) (inside .0), product-small (start .args .m) few (start .args .y) (inside .1))
 
 power-requires : tie.Need-power-requires
-power-requires c κs = let most = inside-bits (c .args .m) (c .pre .0) .1 in omega arith
+power-requires c κs = let most = bits-test (c .args .m) .0 (c .pre .0) .1 in omega arith
 
 mul-result : tie.Need-mul-result
 mul-result c = let s = small c in omega arith

@@ -12,11 +12,11 @@ use Rattle.image.specs.declared.Command.{Command}
 use Rattle.numbers.specs.Inner.Checks.{checked}
 use Rattle.image.specs.Reader.{readingFor}
 use Rattle.image.specs.Run.{ran, run}
-use Rattle.image.specs.Theorems.{read-for}
 use Rattle.image.specs.Laws.Reading.{done}
+use Rattle.image.specs.Laws.ReadingFor.{for-accepted}
 use Rattle.image.specs.Laws.Running.{done-accepted}
 use Rattle.pairs.specs.Pairs.{isPairBits, isPair}
-use Rattle.pairs.specs.Laws.Answers.{inside-bits, bits-refused, image-refused, pair-refused, pair-run}
+use Rattle.pairs.specs.Laws.Answers.{bits-test, bits-refused, image-refused, pair-refused, pair-run}
 use Rattle.pairs.proofs.pair_run.Statement.{statement}
 use Rattle.pairs.proofs.pair_run.Tie as tie
 
@@ -47,7 +47,7 @@ returns c =
     sym (bits-refused (a .m) (a .image .now) (a .x) (a .y) (sym (c .before .is-pair-bits .ensures) ∙ not-true (c .before .is-pair-bits .result) (c .if1 .taken)))
 
 mul-check-for : tie.Need-mul-check-for
-mul-check-for c = let most = inside-bits (c .before .before .before .args .m) (bits c) .1 in omega arith
+mul-check-for c = let most = bits-test (c .before .before .before .args .m) .0 (bits c) .1 in omega arith
 
 check-for-requires : tie.Need-check-for-requires
 check-for-requires c κs = search needs
@@ -75,7 +75,7 @@ run-accepted-requires : tie.Need-run-accepted-requires
 run-accepted-requires c κs =
     let w = c .before .before .before in
     let a = at-whole w .args in
-    record { commands = whole w .0; read = read-for (2 * a .m) (a .image .now) (whole w .0) .0 (whole w .1) .0 }
+    record { commands = whole w .0; read = for-accepted (2 * a .m) (a .image .now) (whole w .0) .1 (whole w .1) .0 }
 
 returns-3 : tie.Need-returns-3
 unfolding ran checked done

@@ -6,6 +6,7 @@ use native.Mathlib.Omega.{arith}
 use lib.Pow.{pow-pos, pow-mono}
 use Rattle.numbers.specs.Laws.Powers.{power-split, part-room}
 use Rattle.pairs.specs.Pairs.{pairIndex}
+use Rattle.pairs.specs.Conditions.{Pair}
 
 module _ (m : ℕ) where
   -- 2^(2m) is 2^m times 2^m.
@@ -36,6 +37,9 @@ module _ (m : ℕ) where
 
   pub column-below : (z : ℕ) → z % 2 ^ m < 2 ^ m
   column-below z = mod-lt z (pow-pos m)
+
+  pub index-of-some : (z : ℕ) → z < 2 ^ (2 * m) → (x : ℕ) × (y : ℕ) × Pair m x y × (pairIndex m x y ≡ z)
+  index-of-some z h = (z / 2 ^ m, z % 2 ^ m, (row-below z h, column-below z), index-back z)
 
   -- 2^m times a number of m bits is small.
   pub product-small : m ≤ 6 → (x : ℕ) → x < 2 ^ m → 2 ^ m * x ≤ 4096

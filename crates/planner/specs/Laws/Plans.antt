@@ -19,7 +19,7 @@ use Rattle.image.specs.Cells.{totalBits}
 use Rattle.cascade.specs.Cascade.{cellsFrom}
 use Rattle.cascade.specs.Groupings.{chosen, cost}
 use Rattle.cascade.specs.Plan.{plan, planCells, noCell, entries, sizeArray, cellArray, totals, planAnswer, judgement, Plans}
-use Rattle.cascade.specs.Theorems.{plan-chooses}
+use Rattle.cascade.specs.Laws.Compiled.{plan-chooses}
 use Rattle.cascade.specs.Inner.Choices.{sizeOf, sizesFrom, answered, tableChoice}
 use Rattle.cascade.specs.declared.Choice.{Choice}
 use Rattle.cascade.specs.declared.Choice.the-variants.{NoList, Costing}

@@ -15,7 +15,7 @@ use Rattle.numbers.specs.Laws.Bools.{yes-or-no, and-both}
 use Rattle.diagram.specs.Accepted.{Accepted}
 use Rattle.cascade.specs.Groupings.{fits, isGrouping, chosen}
 use Rattle.cascade.specs.Plan.{plan}
-use Rattle.cascade.specs.Theorems.{plan-chooses}
+use Rattle.cascade.specs.Laws.Compiled.{plan-chooses}
 use Rattle.cascade.specs.Laws.Admitting.{plan-admits}
 use Rattle.cascade.specs.Laws.Cells.{variables-most}
 use Rattle.cascade.specs.Laws.Chosen.{chosen-refuses, chosen-refuses-by-nine, chosen-best}

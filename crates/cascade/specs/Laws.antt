@@ -9,7 +9,7 @@ pub mod Cards
 pub mod Cells
 pub mod Lengths
 pub mod Planned
+pub mod Commonest
 pub mod WellFormed
 pub mod Compiled
-pub mod Commonest
 pub mod WordReading

@@ -9,3 +9,4 @@ pub mod Pairs
 pub mod Reach
 pub mod Report
 pub mod Sums
+pub mod Uses

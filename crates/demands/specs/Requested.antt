@@ -9,6 +9,8 @@ use lib.IntN.{ℤ, pos}
 use Rattle.numbers.specs.Conditions.{Variables, Limit, TableValue, Part, LeastOver, GreatestOver}
 use Rattle.numbers.specs.Lists.{numbersFrom, exactSum}
 use Rattle.operands.specs.Bytes.{unsignedAt}
+use Rattle.blocks.specs.Classes.{classCount}
+use Rattle.blocks.specs.Uses.{useCount, classesAt}
 use Rattle.diagram.specs.Walk.{walkValue}
 use Rattle.image.specs.Cells.{Card}
 use Rattle.image.specs.Reader.{start}
@@ -99,3 +101,13 @@ sumChecks n weights room =
 -- Remainder: q outside 1..11 is 19.
 unfoldable pub remainderChecks : ℕ → List ℤ → ℕ → ℕ → List Check
 remainderChecks n weights q room = weightChecks n weights ++ ((1 ≤ q) × (q ≤ 11)) otherwise 19 ∷ roomCheck n room
+
+-- ---- W-207: use counts
+
+-- The commonest class of cut h and its use count: no class of the cut is used more, and of those used as much it has
+-- the smallest number.
+pub record Commonest (n : ℕ) (table : List ℤ) (h class uses : ℕ) : Type 0 where
+  pub known : class < classCount n table h
+  pub used : uses ≡ useCount (classesAt n table h) class
+  pub most : (other : ℕ) → other < classCount n table h → useCount (classesAt n table h) other ≤ uses
+  pub smallest : (other : ℕ) → other < classCount n table h → useCount (classesAt n table h) other ≡ uses → class ≤ other

@@ -1,6 +1,5 @@
 -- What is proved of the definitions of this crate; a file stands behind those whose laws it cites.
 pub mod Answers
-pub mod Refusals
 pub mod Checks
 pub mod Counts
 pub mod NarrowCells
@@ -8,5 +7,6 @@ pub mod Narrowest
 pub mod Rails
 pub mod Reached
 pub mod Beside
-pub mod Reaching
 pub mod Found
+pub mod Reaching
+pub mod Refusals

@@ -7,7 +7,7 @@ pub mod Blocks
 pub mod Classes
 pub mod Diagrams
 pub mod Extremes
-pub mod Summable
-pub mod Filling
 pub mod PlainSum
 pub mod ReducedSum
+pub mod Summable
+pub mod Filling

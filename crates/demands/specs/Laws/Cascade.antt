@@ -203,7 +203,7 @@ pub gives-image : (n : ℕ) (table : List ℤ) → Accepted n table → (limit :
     → (best : List ℕ) × (BestGrouping n table limit best × ((buffer : List ℕ) → length (imageFor n table best) ≤ length buffer → GivesImage n table limit best buffer))
 gives-image n table admitted limit l sizes fitting =
     let t = fitting-tests n table limit sizes .0 fitting in
-    let g = cascades.compile-gives n table admitted limit (limit-test limit .1 l) sizes (t .0) (t .1) in
+    let g = cascades.compile-gives n table admitted limit l sizes (t .0) (t .1) in
     (g .0, (g .1, λ buffer room. let r = g .2 buffer room in record { summary = r .0; answered = r .1; written = r .2; cells = r .3; bits = r .4 }))
 
 pub fitting-costs-as-many : (n : ℕ) (table : List ℤ) (limit : ℕ) (buffer : List ℕ) (r : ImageSummary) → compileAnswer n table limit (length buffer) ≡ accepted r → (sizes : List ℕ) → FittingGrouping n table limit sizes → r .planned .bits ≤ cost n table sizes

@@ -78,9 +78,9 @@ module _ (n : ℕ) (image : List ℕ) where
     card-where = (
       (λ c.
           let s = reading-card image bytes .0 (c .0, c .1 .0) in
-          (s .0, for-accepted n image (s .0) .1 (s .1, ap (λ d. d .n) (read-card image (s .0) (s .1) (c .0) (c .1 .0)) ∙ c .1 .1))),
+          (s .0, for-accepted n image (s .0) .0 (s .1, ap (λ d. d .n) (read-card image (s .0) (s .1) (c .0) (c .1 .0)) ∙ c .1 .1))),
       (λ s.
-          let r = for-accepted n image (s .0) .0 (s .1) in
+          let r = for-accepted n image (s .0) .1 (s .1) in
           let c = reading-card image bytes .1 (s .0, r .0) in
           (c .0, (c .1, ap (λ d. d .n) (sym (read-card image (s .0) (r .0) (c .0) (c .1))) ∙ r .1))),
     )
@@ -102,7 +102,7 @@ module _ (m : ℕ) (image : List ℕ) (x y : ℕ) where
   pub pair-there : (commands : List Command) → readingFor (2 * m) image ≡ accepted commands → (x < 2 ^ m) × (y < 2 ^ m)
       → run image (pairIndex m x y) ≡ accepted (runCard (cardOf commands) (pairIndex m x y))
   pair-there commands h inside =
-      let r = for-accepted (2 * m) image commands .0 h in
+      let r = for-accepted (2 * m) image commands .1 h in
       run-of-card image commands (r .0) (pairIndex m x y) (rw (r .1) (index-below m x y (inside .0) (inside .1)))
 
   pub decided-pair : AreBytes image → Decided (pairRun m image x y) (pairChecks m image x y)

@@ -1,18 +1,22 @@
 -- The report goes by its checks, and its figures are those of Walk's values.
-use Prim.Native.Nat.{ℕ, suc, _+_, _-_, _^_, _≤_, _<_}
+use Prim.Native.Nat.{ℕ, suc, _+_, _-_, _/_, _^_, _≤_, _<_}
 use mathlib.Core.Path.{_≡_, refl, _∙_, ap}
 use mathlib.Core.Logic.{_↔_, inl, inr}
 use mathlib.Core.Bool.{true}
-use mathlib.Core.List.{List, map}
+use mathlib.Core.List.{List, [], _∷_, map, flatMap}
 use native.Mathlib.Omega.{arith}
-use lib.IntN.{ℤ}
+use lib.IntN.{ℤ, pos}
 use lib.Dec.{leb, ltb}
+use lib.ListN.{length, getD}
 use Rattle.numbers.specs.Answers.{accepted, refused}
-use Rattle.numbers.specs.Conditions.{Variables, TableValue, Part}
+use Rattle.numbers.specs.Conditions.{Variables, TableValue, Domain, Part, LeastOver, GreatestOver}
 use Rattle.numbers.specs.Lists.{numbersFrom, exactSum}
 use Rattle.numbers.specs.Ranges.{isVariables, isValue}
 use Rattle.numbers.specs.Laws.Tests.{le-test, lt-test, and-test, variables-test, value-test}
-use Rattle.diagram.specs.Walk.{listFits, ofList, walk, walkValue}
+use Rattle.diagram.specs.Walk.{leastAt, greatestAt, pathWeight, listFits, ofList, walk, walkValue}
+use Rattle.lines.specs.Text.{ascii, decimalDigits, decimal, fields, line}
+use Rattle.listing.specs.Listing.{listing}
+use Rattle.listing.specs.Theorems as listings
 use Rattle.report.specs.Report.{valuesFrom, Figures, figuresOf, isPart, report}
 use Rattle.report.specs.Theorems as reports
 use Rattle.demands.specs.Checks.{AllHold, FirstFails, Decided}
@@ -65,3 +69,15 @@ no-record-list n offset list v t fails = (
   (λ x. decided-walk n offset list x .refuses 6 .0 (inr (v, inr (t, inl (fails, refl))))),
   (λ a b. decided-report n offset list a b .refuses 6 .0 (inr (v, inr (t, inl (fails, refl))))),
 )
+
+-- A list with an untrue number in some record is none.
+pub least-untrue : (n : ℕ) (list : List ℤ) (k : ℕ) → 1 ≤ k → k ≤ length list / 6 → ¬ LeastOver (Domain n) (pathWeight list n k) (leastAt list k) → ¬ RecordList n list
+least-untrue n list k one most untrue good = untrue (good .records k one most .least)
+
+pub greatest-untrue : (n : ℕ) (list : List ℤ) (k : ℕ) → 1 ≤ k → k ≤ length list / 6 → ¬ GreatestOver (Domain n) (pathWeight list n k) (greatestAt list k) → ¬ RecordList n list
+greatest-untrue n list k one most untrue good = untrue (good .records k one most .greatest)
+
+-- The line that an n outside 1..11 prints.
+pub refused-by-1 : (input : List ℕ) → 2 ≤ length input → ¬ ((1 ≤ getD input 0 0) × (getD input 0 0 ≤ 11)) → listing input ≡ line "refused" (pos 1 ∷ [])
+unfolding line ascii fields decimal decimalDigits flatMap
+refused-by-1 input long outside = listings.variables-outside input long outside

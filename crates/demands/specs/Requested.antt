@@ -110,4 +110,5 @@ pub record Commonest (n : ℕ) (table : List ℤ) (h class uses : ℕ) : Type 0 
   pub known : class < classCount n table h
   pub used : uses ≡ useCount (classesAt n table h) class
   pub most : (other : ℕ) → other < classCount n table h → useCount (classesAt n table h) other ≤ uses
-  pub smallest : (other : ℕ) → other < classCount n table h → useCount (classesAt n table h) other ≡ uses → class ≤ other
+  pub smallest : (other : ℕ) → other < classCount n table h → useCount (classesAt n table h) other ≡ uses
+      → class ≤ other

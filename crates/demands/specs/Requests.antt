@@ -118,7 +118,8 @@ module _ (weights : List ℤ) where
     pub unsigned-width-holds : (j : ℕ) → j < length weights → weight j <ℤ pos (2 ^ weightWidth weights)
     unsigned-width-holds = widths.unsigned-below weights plain
 
-    pub unsigned-width-is-least : (a : ℕ) → ((j : ℕ) → j < length weights → weight j <ℤ pos (2 ^ a)) → weightWidth weights ≤ a
+    pub unsigned-width-is-least : (a : ℕ) → ((j : ℕ) → j < length weights → weight j <ℤ pos (2 ^ a))
+        → weightWidth weights ≤ a
     unsigned-width-is-least = widths.unsigned-least weights plain
 
   -- With one the signed rule stays: the least width that holds every weight in two's complement.
@@ -126,13 +127,15 @@ module _ (weights : List ℤ) where
     pub signed-width-holds : (j : ℕ) → j < length weights → holds (weightWidth weights) (weight j) ≡ true
     signed-width-holds = widths.signed-holds weights i inside negative
 
-    pub signed-width-is-least : (a : ℕ) → ((j : ℕ) → j < length weights → holds a (weight j) ≡ true) → weightWidth weights ≤ a
+    pub signed-width-is-least : (a : ℕ) → ((j : ℕ) → j < length weights → holds a (weight j) ≡ true)
+        → weightWidth weights ≤ a
     signed-width-is-least = widths.signed-least weights i inside negative
 
--- Reader, costs and the chosen grouping name this width alone (KeepsCell, cellOf), so that the demands are meant with it.
+-- Reader, costs and the chosen grouping name this width alone (KeepsCell, cellOf), so that the demands are meant with
+-- it.
 
--- An older image is that of a card which keeps every rule, its widths by the signed rule; with today's widths the same
--- words keep every rule of today.
+-- An older image is that of a card which keeps every rule, its widths by the signed rule; with today's widths the
+-- same words keep every rule of today.
 pub each-older-image-is-of-a-card : (card : Card) → OlderWellFormed card
     → WellFormed (presentCard card) × (olderCard (presentCard card) ≡ card)
 each-older-image-is-of-a-card = images.present-of-older
@@ -143,7 +146,8 @@ module _ (card : Card) (older : OlderWellFormed card) where
   an-older-image-is-13 = images.older-run-refused card older
 
   -- and where none does it is good as ever.
-  pub an-agreeing-image-stays : ¬ WidthDisagrees card → (x : ℕ) → x < 2 ^ card .n → run (imageOf card) x ≡ accepted (runCard card x)
+  pub an-agreeing-image-stays : ¬ WidthDisagrees card → (x : ℕ) → x < 2 ^ card .n
+      → run (imageOf card) x ≡ accepted (runCard card x)
   an-agreeing-image-stays = images.older-image-runs card older
 
 -- ==== W-203. Look at the latest class first
@@ -319,6 +323,6 @@ module _ (n : ℕ) (table : List ℤ) (limit : ℕ) (sizes : List ℕ) where
       → Commonest n table (endOf k) (planned k .common) (planned k .uses)
   plan-answers-the-commonest = plan-commonest n table limit sizes
 
-  pub compile-answers-the-commonest : (room : ℕ) → compile n table limit room ≡ accepted sizes → (k : ℕ) → k < length sizes
-      → Commonest n table (endOf k) (compiled room k .common) (compiled room k .uses)
+  pub compile-answers-the-commonest : (room : ℕ) → compile n table limit room ≡ accepted sizes → (k : ℕ)
+      → k < length sizes → Commonest n table (endOf k) (compiled room k .common) (compiled room k .uses)
   compile-answers-the-commonest = compile-commonest n table limit sizes

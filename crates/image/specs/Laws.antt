@@ -13,6 +13,7 @@ pub mod Evaluating
 pub mod Held
 pub mod OtherWidths
 pub mod OlderImages
+pub mod Spreading
 pub mod Running
 pub mod Words
 pub mod Refusals

@@ -23,3 +23,4 @@ pub mod Extremes
 pub mod Extremal
 pub mod WeightWidth
 pub mod Written
+pub mod Downward

@@ -1,8 +1,8 @@
 // The evaluation of an accepted image, by its words in place.
 ghost use mathlib.Core.Path.{_≡_};
-ghost use Prim.Native.Nat.{_+_, _≤_, _<_};
+ghost use Prim.Native.Nat.{ℕ, _+_, _^_, _≤_, _<_};
 ghost use lib.ListN.{length};
-ghost use Rattle.image.specs.Inner.Evaluation.{Accepted, cardRead, resultOf, firstProgress, wordPlace, cellRead, CellAhead};
+ghost use Rattle.image.specs.Inner.Evaluation.{Accepted, cardRead, resultOf, firstProgress, groupAt, wordPlace, nextPlace, cellRead, CellThere, CellAhead};
 ghost use Rattle.image.specs.Run.{groupValue, runCard};
 ghost use Rattle.image.specs.Commands.{tableSize};
 use image::Evaluated;
@@ -30,15 +30,21 @@ fn group_value(left: usize, group: usize, x: usize) -> usize
     x / (1 << (left - group)) % (1 << group)
 }
 
-// Where the word for X stands in the cell ahead.
-fn word_place(image: &[u8], x: usize, progress: Progress) -> usize
-    requires { ⌜ CellAhead (now image) x progress ⌝ }
-    ensures { λ r. ⌜ r ≡ wordPlace (now (image .entry)) x progress ⌝ }
+// Where the word for a class and a group value stands, in a cell whose words begin at a place.
+pub(crate) fn word_place(words: usize, group: usize, class: usize, v: usize) -> usize
+    requires { ⌜ (group ≤ 12) × (wordPlace words group class v < 2 ^ 63) ⌝ }
+    ensures { λ r. ⌜ r ≡ wordPlace words group class v ⌝ }
 {
-    let at = progress.at;
-    let group = operands::read_one(image, at + 1);
-    let v = group_value(progress.left, group, x);
-    at + image::CELL_SIZE + image::WORD_SIZE * (progress.class * (1 << group) + v)
+    words + image::WORD_SIZE * (class * (1 << group) + v)
+}
+
+// Behind the last word of the cell at a place.
+pub(crate) fn next_place(image: &[u8], at: usize, group: usize) -> usize
+    requires { ⌜ (group ≡ groupAt (now image) at) × ((left : ℕ) × CellThere (now image) left at) ⌝ }
+    ensures { λ r. ⌜ r ≡ nextPlace (now (image .entry)) at ⌝ }
+{
+    let incoming = operands::read_two(image, at + 2);
+    word_place(at + image::CELL_SIZE, group, incoming, 0)
 }
 
 // One word of the cell ahead is read, at its place.
@@ -48,12 +54,12 @@ fn read_cell(image: &[u8], x: usize, progress: Progress) -> Progress
 {
     let at = progress.at;
     let group = operands::read_one(image, at + 1);
-    let incoming = operands::read_two(image, at + 2);
-    let word = word_place(image, x, progress);
+    let v = group_value(progress.left, group, x);
+    let word = word_place(at + image::CELL_SIZE, group, progress.class, v);
     let class = operands::read_two(image, word + 1);
     let weight = operands::read_signed(image, word + 3);
     Progress {
-        at: at + image::CELL_SIZE + image::WORD_SIZE * (incoming * (1 << group)),
+        at: next_place(image, at, group),
         left: progress.left - group,
         class,
         value: progress.value + weight,

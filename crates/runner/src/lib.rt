@@ -1,10 +1,11 @@
-// Run and Expand: an image is read whole, then evaluated by its words in place.
+// Run and Expand: an image is read whole, then evaluated by its words in place, at one X or from the top cell down at all of them.
 mod evaluation;
+mod expansion;
 
 ghost use mathlib.Core.Path.{_≡_};
 ghost use Prim.Native.Nat.{_<_};
 ghost use lib.ListN.{length};
-ghost use Rattle.image.specs.Inner.Evaluation.{Accepted, cardRead, valuesTo};
+ghost use Rattle.image.specs.Inner.Evaluation.{Accepted};
 ghost use Rattle.image.specs.Run.{Expands, run, ran};
 use image::Expanded;
 use image::Ran;
@@ -35,20 +36,6 @@ pub fn run(image: &[u8], x: usize) -> Ran
     }
 }
 
-// The value at every X that the table has a place for.
-fn fill(image: &[u8], table: &mut [i32])
-    requires { ⌜ Accepted (now image) ⌝ }
-    ensures { λ r. ⌜ now (table .exit) ≡ valuesTo (cardRead (now (image .entry))) (length (now (table .entry))) ⌝ }
-{
-    let mut x = 0;
-    while x < table.len() {
-        let evaluated = crate::evaluation::evaluate(image, x);
-        let value = evaluated.value;
-        table[x] = value;
-        x += 1;
-    }
-}
-
 // Expand of an image that is known to be accepted.
 fn expand_accepted(image: &[u8], table: &mut [i32]) -> Expanded
     requires { ⌜ Accepted (now image) ⌝ }
@@ -57,7 +44,7 @@ fn expand_accepted(image: &[u8], table: &mut [i32]) -> Expanded
     if table.len() != 1 << crate::evaluation::variables(image) {
         return Expanded::Refused(2);
     }
-    fill(image, table);
+    crate::expansion::fill(image, table);
     Expanded::Table
 }
 

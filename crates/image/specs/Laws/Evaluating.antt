@@ -7,7 +7,7 @@ use native.Mathlib.Numerals.{add-one}
 use native.Mathlib.Omega.{arith}
 use lib.Dec.{lit<}
 use lib.ListN.{length, getD}
-use lib.Pow.{pow-pos}
+use lib.Pow.{pow-pos, pow-mono}
 use lib.IntN.{ℤ, _+ℤ_}
 use lib.Signed.{mag}
 use Rattle.numbers.specs.Ranges.{mostVariables}
@@ -20,8 +20,8 @@ use Rattle.operands.specs.Bytes.{unsignedAt, signedAt}
 use Rattle.image.specs.Cells as cells
 use Rattle.image.specs.Cells.{Card, totalBits}
 use Rattle.image.specs.Commands.{wordCommand, cellCommands, cardCommands, cardOf}
-use Rattle.image.specs.Inner.Evaluation.{Accepted, cardIn, cardRead, resultSoFar, firstProgress, groupAhead, wordPlace, nextPlace, cellRead, CellAhead}
-use Rattle.image.specs.Reader.{dueSize, commandAt}
+use Rattle.image.specs.Inner.Evaluation.{Accepted, cardIn, cardRead, resultSoFar, firstProgress, groupAt, firstWord, wordPlace, nextPlace, wordAhead, cellRead, CellThere, CellAhead}
+use Rattle.image.specs.Reader.{mostClasses, dueSize, commandAt}
 use Rattle.image.specs.Run.{Result, wordAt, groupValue, runFrom, runCard}
 use Rattle.image.specs.WellFormed.{noWord, KeepsCell, KeepsCellsBy, KeepsCells}
 use Rattle.image.specs.Laws.Bounds.{variables-most}
@@ -91,16 +91,16 @@ module _ (image : List ℕ) (x : ℕ) (p : Progress) (classes bits : ℕ) (cell 
   unfolding Standing flatMap cellCommands kindOf dueSize
   whole-cell = (stands .0, subst (Standing image (p .at + 7)) (append-assoc (map wordCommand (cell .words)) (flatMap cellCommands below) (End bits ∷ [])) (stands .1))
 
-  is-group : groupAhead image p ≡ cell .group
-  unfolding groupAhead
+  is-group : groupAt image (p .at) ≡ cell .group
+  unfolding groupAt
   is-group = cell-operands image (p .at) cell (whole-cell .0) .0
 
-  is-next : nextPlace image p ≡ p .at + 7 + 7 * length (cell .words)
-  unfolding nextPlace
-  is-next = ap₂ (λ i g. p .at + 7 + 7 * (i * 2 ^ g)) (cell-operands image (p .at) cell (whole-cell .0) .1) is-group ∙ ap (λ n. p .at + 7 + 7 * n) (sym (keeps .whole))
+  is-next : nextPlace image (p .at) ≡ p .at + 7 + 7 * length (cell .words)
+  unfolding nextPlace wordPlace firstWord
+  is-next = ap₂ (λ i g. p .at + 7 + 7 * (i * 2 ^ g + 0)) (cell-operands image (p .at) cell (whole-cell .0) .1) is-group ∙ (let n = keeps .whole in let e : p .at + 7 + 7 * (cell .incoming * 2 ^ cell .group + 0) ≡ p .at + 7 + 7 * length (cell .words) = omega arith in e)
 
-  is-place : wordPlace image x p ≡ p .at + 7 + 7 * index
-  unfolding wordPlace
+  is-place : wordAhead image x p ≡ p .at + 7 + 7 * index
+  unfolding wordAhead wordPlace firstWord
   is-place = ap (λ g. p .at + 7 + 7 * (p .class * 2 ^ g + groupValue (p .left) g x)) is-group
 
   index-inside : index < length (cell .words)
@@ -114,34 +114,31 @@ module _ (image : List ℕ) (x : ℕ) (p : Progress) (classes bits : ℕ) (cell 
   word-stands : Stands image (p .at + 7 + 7 * index) (wordCommand word)
   word-stands = word-stand image (cell .words) rest (p .at + 7) (whole-cell .1) index index-inside
 
-  is-class : unsignedAt image (wordPlace image x p + 1) 2 ≡ word .class
+  is-class : unsignedAt image (wordAhead image x p + 1) 2 ≡ word .class
   is-class = ap (λ n. unsignedAt image (n + 1) 2) is-place ∙ word-operands image (p .at + 7 + 7 * index) word word-stands .0
 
-  is-weight : signedAt image (wordPlace image x p + 3) ≡ word .weight
+  is-weight : signedAt image (wordAhead image x p + 3) ≡ word .weight
   is-weight = ap (λ n. signedAt image (n + 3)) is-place ∙ word-operands image (p .at + 7 + 7 * index) word word-stands .1
 
-  rest-stands : Standing image (nextPlace image p) rest
+  rest-stands : Standing image (nextPlace image (p .at)) rest
   rest-stands = subst (λ n. Standing image n rest) (sym is-next) (after-words image (cell .words) rest (p .at + 7) (whole-cell .1))
 
-  word-room : wordPlace image x p + 7 ≤ length image
+  word-room : wordAhead image x p + 7 ≤ length image
   unfolding wordCommand kindOf dueSize
   word-room = let r = word-stands .room in let e = is-place in omega arith
 
-  next-room : nextPlace image p ≤ length image
-  next-room = let c = standing-count image (nextPlace image p) rest rest-stands in omega arith
+  next-room : nextPlace image (p .at) ≤ length image
+  next-room = let c = standing-count image (nextPlace image (p .at)) rest rest-stands in omega arith
 
 -- The code's numbers stay small: the next command, and the shift by the group.
-module _ (image : List ℕ) (x : ℕ) (p : Progress) (a : CellAhead image x p) where
-  pub command-room : p .at + 7 ≤ length image
-  unfolding nextPlace
-  command-room = let n = a .next in omega arith
+module _ (image : List ℕ) (left at : ℕ) (there : CellThere image left at) where
+  pub command-room : at + 7 ≤ length image
+  unfolding nextPlace wordPlace firstWord
+  command-room = let n = there .next in omega arith
 
-  pub group-narrow : (group : ℕ) → group ≡ groupAhead image p → group < 64
+  pub group-narrow : (group : ℕ) → group ≡ groupAt image at → group ≤ 12
   unfolding mostVariables
-  group-narrow group e = let t = a .inside in let f = a .few in omega arith
-
-  pub group-size : (group : ℕ) → group ≡ groupAhead image p → (1 * 2 ^ group) % 18446744073709551616 ≡ 2 ^ groupAhead image p
-  group-size group e = shifted-one group (group-narrow group e) ∙ ap (λ g. 2 ^ g) e
+  group-narrow group e = let t = there .inside in let f = there .few in omega arith
 
 -- ---- one cell after another
 
@@ -171,12 +168,9 @@ module _ (image : List ℕ) (x : ℕ) (result : Result) (p : Progress) where
       let weight = is-weight image x p classes bits cell below k known stands in
       let inside-left = k .shape .inside in
       let first = k .shape .some in
-      let summed : mag (p .value +ℤ signedAt image (wordPlace image x p + 3)) ≤ 8388608 + (p .words + 1) * 16777216 = rw weight (small-sum (p .value) (word .weight) (p .words) small (weight-mag (word .weight) (kept .ranged))) in (
+      let summed : mag (p .value +ℤ signedAt image (wordAhead image x p + 3)) ≤ 8388608 + (p .words + 1) * 16777216 = rw weight (small-sum (p .value) (word .weight) (p .words) small (weight-mag (word .weight) (kept .ranged))) in (
         record {
-          few = omega arith;
-          some = omega arith;
-          inside = omega arith;
-          next = next-room image x p classes bits cell below k known stands;
+          there = record { few = omega arith; some = omega arith; inside = omega arith; next = next-room image x p classes bits cell below k known stands };
           word = word-room image x p classes bits cell below k known stands;
           small = omega arith;
           words = omega arith;
@@ -203,7 +197,7 @@ module _ (image : List ℕ) (x : ℕ) (result : Result) (p : Progress) where
   -- Every cell takes a variable at least.
   pub cell-takes : CellAhead image x p → cellRead image x p .left < p .left
   unfolding cellRead
-  cell-takes a = let s = a .some in let t = a .inside in omega arith
+  cell-takes a = let s = a .there .some in let t = a .there .inside in omega arith
 
   all-cells : (below : List cells.Cell) (classes : ℕ) → KeepsCells (p .left) classes below → p .left ≡ 0 → runFrom (p .left) below x (p .class) (resultSoFar p) ≡ resultSoFar p
   unfolding runFrom KeepsCellsBy
@@ -244,6 +238,11 @@ module _ (image : List ℕ) (a : Accepted image) where
 
   variables-few : cardRead image .n ≤ mostVariables
   variables-few = rw is-card (variables-most (card .n) (card-keeps image (a .commands) (a .read) .variables) .1)
+
+  -- As many values as a cut has classes at most.
+  pub values-few : 2 ^ cardRead image .n ≤ mostClasses
+  unfolding mostClasses mostVariables
+  values-few = pow-mono variables-few
 
   pub variables-narrow : (n : ℕ) → n ≡ cardRead image .n → n < 64
   unfolding mostVariables

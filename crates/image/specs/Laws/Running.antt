@@ -1,19 +1,16 @@
 -- Run and Expand of an accepted image, and of one that is refused.
-use Prim.Native.Nat.{ℕ, suc, _+_, _-_, _^_, _≤_, _<_}
-use mathlib.Core.Path.{_≡_, refl, sym, _∙_, ap, ap₂}
-use mathlib.Core.List.{List, [], _∷_, _++_, map, append-assoc, append-nil}
-use native.Mathlib.Nat.{zero-add}
-use native.Mathlib.Numerals.{add-one}
+use Prim.Native.Nat.{ℕ, _+_, _-_, _^_, _≤_, _<_}
+use mathlib.Core.Path.{_≡_, refl, sym, _∙_, ap}
+use mathlib.Core.List.{List, _++_, map, append-nil}
 use native.Mathlib.Omega.{arith}
 use lib.Dec.{ltb, eqb}
-use lib.ListN.{length, getD, drop, set, length-map, length-append, length-drop, drop-of-length-le}
-use lib.Seq.{drop-cons, drop-length, set-at}
-use lib.IntN.{ℤ, pos}
+use lib.ListN.{length, length-map, drop-of-length-le}
+use lib.IntN.{ℤ}
 use borrow.Author.Tests.{lt-ltb, le-ltb, eq-eqb, ne-eqb}
 use Rattle.numbers.specs.Answers.{Answer, accepted, refused, unless, bufferAfter}
 use Rattle.numbers.specs.Lists.{numbersFrom}
 use Rattle.numbers.specs.Laws.Answers.{map-refused}
-use Rattle.numbers.specs.Laws.Lists.{length-range, range-suc, map-append}
+use Rattle.numbers.specs.Laws.Lists.{length-range}
 use Rattle.image.specs.Cells.{Card}
 use Rattle.image.specs.Inner.Evaluation.{Accepted, cardRead, valuesTo}
 use Rattle.image.specs.Run.{Expands, runCard, run, cardValues, expand, expandBuffer, expanded}
@@ -101,43 +98,3 @@ expands-table image a buffer after room e =
           ∙ append-nil (valuesTo (cardRead image) (length buffer)))
           );
     }
-
--- ---- filling the buffer, one value after another
-
--- The first so many values are written, the rest is as it was.
-pub record Filled (card : Card) (before after : List ℤ) (x : ℕ) : Type 0 where
-  pub inside : x ≤ length before
-  pub same : length after ≡ length before
-  pub written : after ≡ valuesTo card x ++ drop x before
-
-values-suc : (card : Card) (x : ℕ) → valuesTo card (suc x) ≡ valuesTo card x ++ runCard card x .value ∷ []
-unfolding valuesTo
-values-suc card x =
-    ap (map (λ x. runCard card x .value)) (range-suc 0 x)
-    ∙ map-append (λ x. runCard card x .value) (numbersFrom 0 x) ((0 + x) ∷ [])
-    ∙ ap (λ n. map (λ x. runCard card x .value) (numbersFrom 0 x) ++ runCard card n .value ∷ []) (zero-add x)
-
-module _ (card : Card) (before after : List ℤ) where
-  pub filled-none : Filled card before before 0
-  unfolding valuesTo numbersFrom
-  filled-none = record { inside = omega arith; same = refl; written = refl }
-
-  pub filled-more : (x : ℕ) → x < length before → Filled card before after x → Filled card before (set after x (runCard card x .value)) (x + 1)
-  filled-more x h f =
-      let now : set after x (runCard card x .value) ≡ valuesTo card (x + 1) ++ drop (x + 1) before =
-      ap (λ l. set l x (runCard card x .value)) (f .written ∙ ap (λ l. valuesTo card x ++ l) (drop-cons before x (pos 0) h))
-      ∙ set-at (valuesTo card x) (getD before x (pos 0)) (drop (suc x) before) (runCard card x .value) x (length-values card x)
-      ∙ sym (append-assoc (valuesTo card x) (runCard card x .value ∷ []) (drop (suc x) before))
-      ∙ ap (λ l. l ++ drop (suc x) before) (sym (values-suc card x))
-      ∙ ap (λ n. valuesTo card n ++ drop n before) (sym (add-one x)) in
-      record {
-        inside = omega arith;
-        same = ap length now ∙ length-append (valuesTo card (x + 1)) (drop (x + 1) before) ∙ ap₂ _+_ (length-values card (x + 1)) (length-drop (x + 1) before) ∙ (let e : x + 1 + (length before - (x + 1)) ≡ length before = omega arith in e);
-        written = now;
-      }
-
-  pub filled-all : (x : ℕ) → length before ≤ x → Filled card before after x → after ≡ valuesTo card (length before)
-  filled-all x h f =
-      let w = f .inside in
-      let e : x ≡ length before = omega arith in
-      f .written ∙ ap (λ n. valuesTo card n ++ drop n before) e ∙ ap (λ l. valuesTo card (length before) ++ l) (drop-length before) ∙ append-nil (valuesTo card (length before))

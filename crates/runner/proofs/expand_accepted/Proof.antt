@@ -25,7 +25,7 @@ returns c =
     expands-refused (s .args .image .now) (s .args .table .now) 2 (expand-room (s .args .image .now) (s .pre) (length (s .args .table .now)) (let t = c .if1 .taken in let e = size (c .before) in omega arith))
 
 fill-requires : tie.Need-fill-requires
-fill-requires c κs = search needs
+fill-requires c κs = let s = c .before .before .before .before in (s .pre, (let t = c .before .if1 .left in let e = size (c .before .before) in omega arith))
 
 same-length : tie.Need-same-length
 same-length c = search needs

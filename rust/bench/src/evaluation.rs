@@ -97,13 +97,19 @@ fn expand() {
     timing::line(&what, "reference", &mut proved, || {
         let _ = black_box(reference::expand(black_box(&image), &mut theirs));
     });
-    timing::line(&what, "3 runs, 4096 evaluations", &mut proved, || {
-        for x in [0, X, 4_095] {
-            let _ = black_box(answers::run(black_box(&image), x));
-        }
+    timing::line(&what, "run, 4096 evaluations", &mut proved, || {
+        let _ = black_box(answers::run(black_box(&image), X));
         for (x, value) in theirs.iter_mut().enumerate() {
             *value = same_method::evaluate(black_box(&image), x);
         }
+    });
+    assert!(ours == theirs);
+    let mut proved = || {
+        let _ = black_box(answers::expand(black_box(&image), &mut ours));
+    };
+    timing::line(&what, "run, same method", &mut proved, || {
+        let _ = black_box(answers::run(black_box(&image), X));
+        same_method::expand(black_box(&image), &mut theirs);
     });
     assert!(ours == theirs);
 }

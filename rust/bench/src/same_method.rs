@@ -156,6 +156,28 @@ pub fn evaluate(image: &[u8], x: usize) -> i32 {
     value
 }
 
+/// The values of an accepted image at every X, from the top cell down.
+pub fn expand(image: &[u8], table: &mut [i32]) {
+    let two = |at: usize| usize::from(image[at]) << 8 | usize::from(image[at + 1]);
+    let four = |at: usize| two(at) << 16 | two(at + 2);
+    let mut classes = [0u16; 4_096];
+    let mut left = usize::from(image[1]);
+    let (mut at, mut blocks) = (6, 1);
+    table[0] = four(2) as i32;
+    while left > 0 {
+        let group = usize::from(image[at + 1]);
+        left -= group;
+        blocks <<= group;
+        for y in (0..blocks).rev() {
+            let (class, value) = (classes[y >> group], table[y >> group]);
+            let word = at + 7 + 7 * ((usize::from(class) << group) + (y & ((1 << group) - 1)));
+            classes[y] = two(word + 1) as u16;
+            table[y] = value + four(word + 3) as i32;
+        }
+        at += 7 + 7 * (two(at + 2) << group);
+    }
+}
+
 fn check(table: &[i32]) {
     let range = -8_388_608..=8_388_607;
     assert!(table.iter().all(|value| range.contains(value)));

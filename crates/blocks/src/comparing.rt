@@ -5,7 +5,7 @@ ghost use lib.ListN.{length, getD, take, drop};
 ghost use lib.IntN.{pos, _-ℤ_};
 ghost use Rattle.blocks.specs.Blocks.{differences};
 ghost use Rattle.blocks.specs.Classes.{same};
-ghost use Rattle.blocks.specs.Inner.Layout.{less};
+ghost use Rattle.blocks.specs.Inner.Layout.{less, lastDifference};
 
 // A value less the one at its place in another list, in a width that holds any such difference.
 fn difference(left: &[i32], right: &[i32], x: usize) -> i64
@@ -52,6 +52,17 @@ pub fn same_differences(left: &[i32], right: &[i32]) -> bool
     }
     let constant = difference(left, right, 0);
     same_less(&left[1..], constant, &right[1..])
+}
+
+// The last difference of a block, 0 where it has no value.
+pub fn last_difference(values: &[i32]) -> i64
+    ensures { λ r. ⌜ r ≡ lastDifference (now (values .entry)) ⌝ }
+{
+    if values.len() == 0 {
+        return 0;
+    }
+    let last = values.len() - 1;
+    difference(&values[last..], values, 0)
 }
 
 // Whether the halves of a block are equal value by value: a block whose halves differ branches.

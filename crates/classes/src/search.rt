@@ -31,6 +31,20 @@ fn same_part(table: &[i32], size: usize, j: usize, values: &[i32]) -> bool
     blocks::comparing::same_differences(&table[start..end], values)
 }
 
+// The same for another class than the latest: its first block is likely to differ, and the last differences tell most blocks apart.
+fn same_other(table: &[i32], size: usize, j: usize, values: &[i32]) -> bool
+    requires { ⌜ j * size + size ≤ length (now table) ⌝ }
+    ensures { λ r. ⌜ r ≡ same (differences (part (now (table .entry)) size j)) (differences (now (values .entry))) ⌝ }
+{
+    let start = j * size;
+    let end = start + size;
+    let there = blocks::comparing::last_difference(&table[start..end]);
+    if there != blocks::comparing::last_difference(values) {
+        return false;
+    }
+    same_part(table, size, j, values)
+}
+
 // The first class from one number on and before another whose first block has the differences of these values; that other number
 // where none has.
 fn find_between(
@@ -49,7 +63,7 @@ fn find_between(
         if class == to {
             break to;
         }
-        if same_part(table, size, firsts[class], values) {
+        if same_other(table, size, firsts[class], values) {
             break class;
         }
         class += 1;

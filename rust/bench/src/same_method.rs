@@ -52,7 +52,9 @@ fn class_cut(
     for (j, (class, tried)) in classes.iter_mut().zip(tried).enumerate() {
         let values = block(j);
         let same = |first: usize| same_differences(block(first), values);
-        (latest, *tried) = find_class(&firsts[..count], latest, same);
+        let last = last_difference(values);
+        let other = |first: usize| last_difference(block(first)) == last && same(first);
+        (latest, *tried) = find_class(&firsts[..count], latest, same, other);
         *class = latest;
         (firsts[j], use_counts[j]) = (0, 0);
         if latest == count {
@@ -67,7 +69,12 @@ fn class_cut(
 
 /// The class whose first block is the same, or the next new one, and how many
 /// were tried: the latest class first, then the others from class 0 up.
-fn find_class(firsts: &[usize], latest: usize, same: impl Fn(usize) -> bool) -> (usize, usize) {
+fn find_class(
+    firsts: &[usize],
+    latest: usize,
+    same: impl Fn(usize) -> bool,
+    other: impl Fn(usize) -> bool,
+) -> (usize, usize) {
     if firsts.is_empty() {
         return (0, 0);
     }
@@ -78,7 +85,7 @@ fn find_class(firsts: &[usize], latest: usize, same: impl Fn(usize) -> bool) -> 
     for (class, &first) in firsts.iter().enumerate() {
         if class != latest {
             tried += 1;
-            if same(first) {
+            if other(first) {
                 return (class, tried);
             }
         }
@@ -125,6 +132,11 @@ fn class_cut_from_0(
         }
     }
     count
+}
+
+/// A block's last value less its first.
+fn last_difference(values: &[i32]) -> i64 {
+    i64::from(values[values.len() - 1]) - i64::from(values[0])
 }
 
 /// Differences are compared one by one, up to the first that differs.

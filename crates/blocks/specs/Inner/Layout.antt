@@ -1,9 +1,9 @@
 -- Parts of a table, and the rows of all cuts: what the functions are lent and leave.
-use Prim.Native.Nat.{ℕ, suc, _*_, _^_, _≤_}
+use Prim.Native.Nat.{ℕ, suc, _-_, _*_, _^_, _≤_}
 use mathlib.Core.Path.{_≡_}
 use mathlib.Core.List.{List, [], map}
 use lib.ListN.{length, getD, take, drop}
-use lib.IntN.{ℤ, _-ℤ_}
+use lib.IntN.{ℤ, pos, _-ℤ_}
 use Rattle.numbers.specs.Ranges.{mostVariables}
 use Rattle.blocks.specs.Blocks.{blocks, differences}
 use Rattle.blocks.specs.Classes.{classes}
@@ -12,6 +12,10 @@ use Rattle.blocks.specs.Rows.{cutPlace, allNumbers, allFirsts, allCounts
 -- Values less a constant.
 unfoldable pub less : ℤ → List ℤ → List ℤ
 less constant values = map (λ v. v -ℤ constant) values
+
+-- The last difference of a block, 0 where it has no value.
+unfoldable pub lastDifference : List ℤ → ℤ
+lastDifference values = getD (differences values) (length values - 1) (pos 0)
 
 -- Part j of so many values.
 unfoldable pub part : List ℤ → ℕ → ℕ → List ℤ

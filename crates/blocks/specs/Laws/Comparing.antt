@@ -1,5 +1,5 @@
 -- Comparing two lists value by value, from the left.
-use Prim.Native.Nat.{ℕ, suc, _+_, _<_}
+use Prim.Native.Nat.{ℕ, suc, _+_, _-_, _<_}
 use mathlib.Core.Path.{_≡_, refl, sym, _∙_, ap, ap₂}
 use mathlib.Core.Bool.{true, false, _&&_, and-false, false≢true}
 use mathlib.Core.List.{List, [], _∷_, map, map-id}
@@ -16,7 +16,8 @@ use Rattle.numbers.specs.Laws.Integers.{eqZ-true, eqZ-refl, sub-self, sub-zero,
 use Rattle.numbers.specs.Laws.Lists.{getD-map, map-map, map-same}
 use Rattle.blocks.specs.Blocks.{first, differences}
 use Rattle.blocks.specs.Classes.{same}
-use Rattle.blocks.specs.Inner.Layout.{less}
+use Rattle.blocks.specs.Inner.Layout.{less, lastDifference}
+use Rattle.blocks.specs.Laws.Differences.{same-length}
 use Rattle.blocks.specs.Laws.Same.{same-true, equal-same}
 
 pub length-less : (c : ℤ) (values : List ℤ) → length (less c values) ≡ length values
@@ -108,3 +109,21 @@ unfolding same differences
 none-right [] right h k = absurd (h refl)
 none-right (y ∷ left) [] h k = refl
 none-right (y ∷ left) (z ∷ right) h k = absurd (omega arith)
+
+-- The last difference, by the values themselves; of no values it is 0.
+pub last-of-values : (values : List ℤ) → (length values ≡ 0 → ⊥) → lastDifference values ≡ getD values (length values - 1) (pos 0) -ℤ getD values 0 (pos 0)
+unfolding lastDifference differences first
+last-of-values values h = getD-map (λ v. v -ℤ getD values 0 (pos 0)) values (length values - 1) (pos 0) (pos 0) (omega arith)
+
+pub last-of-none : (values : List ℤ) → length values ≡ 0 → lastDifference values ≡ pos 0
+unfolding lastDifference differences
+last-of-none [] h = refl
+last-of-none (a ∷ more) h = absurd (omega arith)
+
+-- Blocks whose last differences are unlike.
+pub unlike-last : (left right : List ℤ) → (lastDifference left ≡ lastDifference right → ⊥) → same (differences left) (differences right) ≡ false
+unfolding lastDifference
+unlike-last left right h =
+    yes-or-no (same (differences left) (differences right))
+    (λ e. let d = same-true (differences left) (differences right) e in absurd (h (ap₂ (λ l k. getD l (k - 1) (pos 0)) d (same-length left right d))))
+    (λ e. e)

@@ -40,22 +40,22 @@ module _ (i : tie.Else1 Inv-loop μ-loop) where
   inside : start .args .to ≤ length (partDifferences (start .args .table .now) (start .args .size) (start .args .firsts .now))
   inside = rw length-parts (start .pre .1 .1)
 
-mul-same-part : tie.Need-mul-same-part Inv-loop μ-loop
-mul-same-part c = let l = is-known c in search needs
+mul-same-other : tie.Need-mul-same-other Inv-loop μ-loop
+mul-same-other c = let l = is-known c in search needs
 
-shared-slice-read-same-part : tie.Need-shared-slice-read-same-part Inv-loop μ-loop
-shared-slice-read-same-part c = is-known (c .before)
+shared-slice-read-same-other : tie.Need-shared-slice-read-same-other Inv-loop μ-loop
+shared-slice-read-same-other c = is-known (c .before)
 
-same-part-requires : tie.Need-same-part-requires Inv-loop μ-loop
-same-part-requires c κs = let i = c .before in start i .pre .0 .inside (here i .loop .class) (is-known i)
+same-other-requires : tie.Need-same-other-requires Inv-loop μ-loop
+same-other-requires c κs = let i = c .before in start i .pre .0 .inside (here i .loop .class) (is-known i)
 
 -- What the test says of the class's list.
-tested : (c : tie.After-same-part Inv-loop μ-loop) (answer : Bool) → c .same-part .result ≡ answer
+tested : (c : tie.After-same-other Inv-loop μ-loop) (answer : Bool) → c .same-other .result ≡ answer
     → same (getD (partDifferences (start (c .before .before) .args .table .now) (start (c .before .before) .args .size) (start (c .before .before) .args .firsts .now)) (here (c .before .before) .loop .class) []) (differences (start (c .before .before) .args .values .now)) ≡ answer
 tested c answer e =
     let i = c .before .before in
     let a = start i .args in
-    ap (λ l. same l (differences (a .values .now))) (part-at (a .table .now) (a .size) (a .firsts .now) (here i .loop .class) (is-known i)) ∙ sym (c .same-part .ensures) ∙ e
+    ap (λ l. same l (differences (a .values .now))) (part-at (a .table .now) (a .size) (a .firsts .now) (here i .loop .class) (is-known i)) ∙ sym (c .same-other .ensures) ∙ e
 
 add-class : tie.Need-add-class Inv-loop μ-loop
 add-class c = let l = is-known (c .before .before .before) in search needs
@@ -87,9 +87,9 @@ find-between-spec =
     Inv-loop
     μ-loop
     loop-holds
-    mul-same-part
-    shared-slice-read-same-part
-    same-part-requires
+    mul-same-other
+    shared-slice-read-same-other
+    same-other-requires
     add-class
     loop-less
     loop-again

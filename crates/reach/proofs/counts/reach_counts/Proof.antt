@@ -36,7 +36,7 @@ returns c =
     let least = c .before .least-limit .ensures in
     let listed = c .list-cuts .ensures in
     let next = add-one (c .before .before .furthest-cut .result) in
-    cc
+    rw (listed, least, next, last)
 
 pub reach-counts-spec : {M : Type 1} → statement M
 reach-counts-spec = tie.close (tie.spec furthest-cut-requires least-limit-requires add-t6 list-cuts-requires returns)

@@ -36,7 +36,7 @@ returns c =
     let incoming = c .before .before .read-two .ensures .read in
     let outgoing = c .before .read-two2 .ensures .read in
     let width = c .read-one2 .ensures .read in
-    (cc, c .read-one2 .ensures .small)
+    (rw (group, incoming, outgoing, width), c .read-one2 .ensures .small)
 
 pub cell-at-spec : {M : Type 1} → statement M
 cell-at-spec =

@@ -40,10 +40,11 @@ pub(crate) fn skip(text: &[u8], place: Position) -> Position
     let mut at = place.at;
     let mut line = place.line;
     while at < text.len() {
-        if !is_separator(text[at]) {
+        let byte = text[at];
+        if !is_separator(byte) {
             return Position { at, line };
         }
-        if text[at] == b'\n' {
+        if byte == b'\n' {
             line += 1;
         }
         at += 1;
@@ -74,16 +75,13 @@ pub fn next_item(text: &[u8], place: Position) -> Item
     let first = skip(text, place);
     let start = first.at;
     let line = first.line;
-    if text.len() <= start {
-        return Item::Ended { line };
-    }
     let end = word_end(text, start);
-    match crate::numerals::word_number(&text[start..end]) {
-        Number::Whole(number) => Item::Valued {
-            number,
-            line,
-            at: end,
-        },
-        Number::NotWhole => Item::Other { line },
+    let Number::Whole(number) = crate::numerals::word_number(&text[start..end]) else {
+        return Item::Other { line };
+    };
+    Item::Valued {
+        number,
+        line,
+        at: end,
     }
 }

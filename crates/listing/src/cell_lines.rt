@@ -35,8 +35,7 @@ fn write_cells(
     let mut next = at;
     let mut k = 0;
     while k < count {
-        let cell = cells[k];
-        next = write_cell(text, next, cell);
+        next = write_cell(text, next, cells[k]);
         k += 1;
     }
     next

@@ -43,11 +43,11 @@ module _ (c : tie.In-loop Inv-loop μ-loop) where
 loop-holds : tie.Need-loop-holds Inv-loop μ-loop
 loop-holds c = let a = c .before .args in no-pieces planLine (take (a .count) (a .t3)) (a .text .now) (a .at)
 
-mul-cell : tie.Need-mul-cell Inv-loop μ-loop
-mul-cell c = let t = c .loop-test .taken in let f = start (c .before) .pre .0 .few in omega arith
+mul-write-cell : tie.Need-mul-write-cell Inv-loop μ-loop
+mul-write-cell c = let t = c .before .loop-test .taken in let f = start (c .before .before) .pre .0 .few in omega arith
 
-array-copy-out-cell : tie.Need-array-copy-out-cell Inv-loop μ-loop
-array-copy-out-cell c = let t = c .loop-test .taken in let f = start (c .before) .pre .0 .few in omega arith
+array-copy-out-write-cell : tie.Need-array-copy-out-write-cell Inv-loop μ-loop
+array-copy-out-write-cell c = let t = c .before .loop-test .taken in let f = start (c .before .before) .pre .0 .few in omega arith
 
 write-cell-requires : tie.Need-write-cell-requires Inv-loop μ-loop
 unfolding planLines noCell
@@ -92,8 +92,8 @@ write-cells-spec =
     Inv-loop
     μ-loop
     loop-holds
-    mul-cell
-    array-copy-out-cell
+    mul-write-cell
+    array-copy-out-write-cell
     write-cell-requires
     add-k
     loop-less

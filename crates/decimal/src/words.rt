@@ -2,25 +2,11 @@
 ghost use mathlib.Core.Path.{_≡_};
 ghost use Prim.Native.Nat.{_+_, _≤_};
 ghost use lib.ListN.{length, drop};
-ghost use Rattle.decimal.specs.Words.{isBlank};
 ghost use Rattle.decimal.specs.Inner.Positions.{isSeparator, PositionIn, skipped, wordLength};
 ghost use Rattle.decimal.specs.Inner.Items.{itemAt};
 use crate::Item;
 use crate::Number;
 use crate::Position;
-
-// Whether a byte is a space or a tab.
-fn is_blank(byte: u8) -> bool
-    ensures { λ r. ⌜ r ≡ isBlank byte ⌝ }
-{
-    if byte == b' ' {
-        return true;
-    }
-    if byte == b'\t' {
-        return true;
-    }
-    byte == b'\r'
-}
 
 // Whether a byte parts words: a blank, or the end of a line.
 fn is_separator(byte: u8) -> bool
@@ -29,7 +15,13 @@ fn is_separator(byte: u8) -> bool
     if byte == b'\n' {
         return true;
     }
-    is_blank(byte)
+    if byte == b' ' {
+        return true;
+    }
+    if byte == b'\t' {
+        return true;
+    }
+    byte == b'\r'
 }
 
 // Past the blanks and newlines from a place on.

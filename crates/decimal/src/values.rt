@@ -1,10 +1,7 @@
 // The values of a text, read into a row and written as the input's bytes.
 ghost use mathlib.Core.Path.{_≡_};
-ghost use mathlib.Core.List.{flatMap};
-ghost use Prim.Native.Nat.{_+_, _*_, _≤_};
+ghost use Prim.Native.Nat.{_≤_};
 ghost use lib.ListN.{length};
-ghost use Rattle.numbers.specs.Lists.{overwritten};
-ghost use Rattle.operands.specs.Bytes.{signedBytes};
 ghost use Rattle.lines.specs.Inner.Writing.{Writes};
 ghost use Rattle.decimal.specs.Table.{inputOf};
 ghost use Rattle.decimal.specs.Inner.Positions.{PositionIn};
@@ -56,18 +53,6 @@ pub(crate) fn read_values(text: &[u8], at: usize, count: usize, values: &mut [i3
     check_end(text, place)
 }
 
-// The bytes of values, from the third on.
-fn write_values(input: &mut [u8], values: &[i32])
-    requires { ⌜ 2 + 4 * length (now values) ≤ length (now input) ⌝ }
-    ensures { λ _. ⌜ now (input .exit) ≡ overwritten (now (input .entry)) 2 (flatMap signedBytes (now (values .entry))) ⌝ }
-{
-    let mut j = 0;
-    while j < values.len() {
-        operands::writing::write_signed(input, 2 + 4 * j, values[j]);
-        j += 1;
-    }
-}
-
 // The bytes of a table, in front. Answers how many there are.
 pub(crate) fn write_input(input: &mut [u8], n: usize, limit: usize, values: &[i32]) -> usize
     requires { ⌜ InputReady n limit (now values) (now input) ⌝ }
@@ -75,6 +60,10 @@ pub(crate) fn write_input(input: &mut [u8], n: usize, limit: usize, values: &[i3
 {
     input[0] = n as u8;
     input[1] = limit as u8;
-    write_values(input, values);
-    2 + 4 * values.len()
+    let mut j = 0;
+    while j < values.len() {
+        operands::writing::write_signed(input, 2 + 4 * j, values[j]);
+        j += 1;
+    }
+    2 + 4 * j
 }

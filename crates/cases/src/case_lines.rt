@@ -34,7 +34,6 @@ pub fn read_row(line: &[u8], row: &mut [i32]) -> usize
                 place = Position { at, line };
             }
             Item::Other { line: _ } => return count,
-            Item::Ended { line: _ } => return count,
         }
         count += 1;
     }

@@ -12,25 +12,23 @@ pub(crate) fn heading(text: &[u8], at: usize, low: i32, high: i32) -> Heading
     requires { ⌜ PositionIn (now text) (record { at = at; line = 1 }) ⌝ }
     ensures { λ r. ⌜ r ≡ headingAt (now (text .entry)) at low high ⌝ }
 {
-    match crate::words::next_item(text, Position { at, line: 1 }) {
-        Item::Valued {
-            number,
-            line,
-            at: next,
-        } => {
-            if line != 1 {
-                return Heading::Missing;
-            }
-            if !numbers::arithmetic::is_within(low, high, number) {
-                return Heading::Missing;
-            }
-            Heading::Found {
-                number: numbers::arithmetic::unsigned_part(number) as usize,
-                at: next,
-            }
-        }
-        Item::Other { line: _ } => Heading::Missing,
-        Item::Ended { line: _ } => Heading::Missing,
+    let Item::Valued {
+        number,
+        line,
+        at: next,
+    } = crate::words::next_item(text, Position { at, line: 1 })
+    else {
+        return Heading::Missing;
+    };
+    if line != 1 {
+        return Heading::Missing;
+    }
+    if !numbers::arithmetic::is_within(low, high, number) {
+        return Heading::Missing;
+    }
+    Heading::Found {
+        number: numbers::arithmetic::unsigned_part(number) as usize,
+        at: next,
     }
 }
 

@@ -6,7 +6,7 @@ mod values;
 pub mod words;
 
 ghost use Rattle.decimal.specs.Table.{Reads};
-ghost use Rattle.decimal.specs.Inner.Values.{bodyAt, Answers, BodyReady};
+ghost use Rattle.decimal.specs.Inner.Values.{tableAt, limitAt, Answers, BodyReady, LimitReady};
 
 // What was expected where a text goes wrong.
 pub enum Expected {
@@ -48,11 +48,11 @@ pub enum Number {
     NotWhole,
 }
 
-// What comes next in a text: a number of 32 bits, with the place behind it, any other word, or nothing; each with its line.
+// What comes next in a text: a number of 32 bits, with the place behind it, or none, at any other word or at the end; each with
+// its line.
 pub enum Item {
     Valued { number: i32, line: usize, at: usize },
     Other { line: usize },
-    Ended { line: usize },
 }
 
 // A number in its range on the first line, with the place behind it.
@@ -70,28 +70,46 @@ pub enum Body {
 // The bytes of a buffer that holds every input.
 pub const INPUT_ROOM: usize = 2 + 4 * numbers::MOST_VALUES;
 
-// What follows n and the limit on the first line, from the place behind them.
-fn parse_body(text: &[u8], at: usize, n: usize, limit: usize, input: &mut [u8]) -> Parsed
+// The values, from the place behind n and the limit, and the input's bytes.
+fn parse_values(text: &[u8], at: usize, n: usize, limit: usize, input: &mut [u8]) -> Parsed
     requires { ⌜ BodyReady (now text) at n limit (now input) ⌝ }
-    ensures { λ r. ⌜ Answers (bodyAt (now (text .entry)) at n limit) (now (input .entry)) r (now (input .exit)) ⌝ }
+    ensures { λ r. ⌜ Answers (tableAt (now (text .entry)) at n limit) (now (input .entry)) r (now (input .exit)) ⌝ }
 {
-    if crate::headings::has_more(text, at) {
+    let mut row = [0i32; numbers::MOST_VALUES];
+    let count = numbers::arithmetic::power(n);
+    match crate::values::read_values(text, at, count, &mut row) {
+        Body::Wrong { line, expected } => {
+            return Parsed::Wrong { line, expected };
+        }
+        Body::Good => {}
+    }
+    Parsed::Input {
+        length: crate::values::write_input(input, n, limit, &row[..count]),
+    }
+}
+
+// What follows n, from the place behind it: the limit, nothing more on the first line, and the values.
+fn parse_limit(text: &[u8], at: usize, n: usize, input: &mut [u8]) -> Parsed
+    requires { ⌜ LimitReady (now text) at n (now input) ⌝ }
+    ensures { λ r. ⌜ Answers (limitAt (now (text .entry)) at n) (now (input .entry)) r (now (input .exit)) ⌝ }
+{
+    let Heading::Found {
+        number: limit,
+        at: behind,
+    } = crate::headings::heading(text, at, 0, 255)
+    else {
+        return Parsed::Wrong {
+            line: 1,
+            expected: Expected::Limit,
+        };
+    };
+    if crate::headings::has_more(text, behind) {
         return Parsed::Wrong {
             line: 1,
             expected: Expected::LineEnd,
         };
     }
-    let mut row = [0i32; numbers::MOST_VALUES];
-    let count = numbers::arithmetic::power(n);
-    match crate::values::read_values(text, Position { at, line: 1 }, count, &mut row) {
-        Body::Wrong { line, expected } => Parsed::Wrong { line, expected },
-        Body::Good => {
-            crate::values::write_input(input, n, limit, &row[..count]);
-            Parsed::Input {
-                length: 2 + 4 * count,
-            }
-        }
-    }
+    parse_values(text, behind, n, limit, input)
 }
 
 // The listing's input of the table that a text gives, written into the lent buffer where that holds every input.
@@ -101,20 +119,11 @@ pub fn parse(text: &[u8], input: &mut [u8]) -> Parsed
     if input.len() < INPUT_ROOM {
         return Parsed::TooShort;
     }
-    match crate::headings::heading(text, 0, 1, 12) {
-        Heading::Missing => Parsed::Wrong {
+    let Heading::Found { number: n, at } = crate::headings::heading(text, 0, 1, 12) else {
+        return Parsed::Wrong {
             line: 1,
             expected: Expected::Variables,
-        },
-        Heading::Found { number: n, at } => match crate::headings::heading(text, at, 0, 255) {
-            Heading::Missing => Parsed::Wrong {
-                line: 1,
-                expected: Expected::Limit,
-            },
-            Heading::Found {
-                number: limit,
-                at: behind,
-            } => parse_body(text, behind, n, limit, input),
-        },
-    }
+        };
+    };
+    parse_limit(text, at, n, input)
 }

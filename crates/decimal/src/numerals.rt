@@ -79,8 +79,8 @@ pub(crate) fn word_number(word: &[u8]) -> Number
         return Number::NotWhole;
     }
     let first = word[0];
-    match read_digits(word, sign_length(first)) {
-        Digits::Small(size) => signed(size, first == b'-'),
-        Digits::NotSmall => Number::NotWhole,
-    }
+    let Digits::Small(size) = read_digits(word, sign_length(first)) else {
+        return Number::NotWhole;
+    };
+    signed(size, first == b'-')
 }

@@ -2,25 +2,11 @@
 ghost use mathlib.Core.Path.{_≡_};
 ghost use Prim.Native.Nat.{_+_, _≤_};
 ghost use lib.ListN.{length, drop};
-ghost use Rattle.decimal.specs.Words.{isBlank};
 ghost use Rattle.decimal.specs.Inner.Positions.{isSeparator, PositionIn, skipped, wordLength};
 ghost use Rattle.decimal.specs.Inner.Items.{itemAt};
 use crate::Item;
 use crate::Number;
 use crate::Position;
-
-// Whether a byte is a space or a tab.
-fn is_blank(byte: u8) -> bool
-    ensures { λ r. ⌜ r ≡ isBlank byte ⌝ }
-{
-    if byte == b' ' {
-        return true;
-    }
-    if byte == b'\t' {
-        return true;
-    }
-    byte == b'\r'
-}
 
 // Whether a byte parts words: a blank, or the end of a line.
 fn is_separator(byte: u8) -> bool
@@ -29,7 +15,13 @@ fn is_separator(byte: u8) -> bool
     if byte == b'\n' {
         return true;
     }
-    is_blank(byte)
+    if byte == b' ' {
+        return true;
+    }
+    if byte == b'\t' {
+        return true;
+    }
+    byte == b'\r'
 }
 
 // Past the blanks and newlines from a place on.
@@ -40,10 +32,11 @@ pub(crate) fn skip(text: &[u8], place: Position) -> Position
     let mut at = place.at;
     let mut line = place.line;
     while at < text.len() {
-        if !is_separator(text[at]) {
+        let byte = text[at];
+        if !is_separator(byte) {
             return Position { at, line };
         }
-        if text[at] == b'\n' {
+        if byte == b'\n' {
             line += 1;
         }
         at += 1;
@@ -74,16 +67,13 @@ pub fn next_item(text: &[u8], place: Position) -> Item
     let first = skip(text, place);
     let start = first.at;
     let line = first.line;
-    if text.len() <= start {
-        return Item::Ended { line };
-    }
     let end = word_end(text, start);
-    match crate::numerals::word_number(&text[start..end]) {
-        Number::Whole(number) => Item::Valued {
-            number,
-            line,
-            at: end,
-        },
-        Number::NotWhole => Item::Other { line },
+    let Number::Whole(number) = crate::numerals::word_number(&text[start..end]) else {
+        return Item::Other { line };
+    };
+    Item::Valued {
+        number,
+        line,
+        at: end,
     }
 }

@@ -2,7 +2,7 @@
 ghost use Prim.Native.Nat.{_+_, _^_, _≤_, _<_};
 ghost use lib.ListN.{length};
 ghost use Rattle.lines.specs.Inner.Writing.{Writes};
-ghost use Rattle.listing.specs.Inner.CellLines.{planLine, planLines, cascadeText, CellSmall, CellsSmall};
+ghost use Rattle.listing.specs.Inner.CellLines.{planLine, cascadeText, CellSmall, CellsSmall};
 use cascade::Cell;
 
 // The line of a cell at a place. Answers the place behind it.
@@ -21,28 +21,7 @@ fn write_cell(text: &mut [u8], at: usize, cell: Cell) -> usize
     lines::fields::write_line(text, at, b"cell", &numbers)
 }
 
-// The lines of the first so many cells at a place, from the top cell down. Answers the place behind them.
-fn write_cells(
-    text: &mut [u8],
-    at: usize,
-    cells: [Cell; cascade::MOST_CELLS],
-    count: usize,
-) -> usize
-    requires { ⌜ CellsSmall cells count ⌝ }
-    requires { ⌜ at + length (planLines cells count) ≤ length (now text) ⌝ }
-    ensures { λ r. ⌜ Writes (now (text .entry)) at (planLines cells count) r (now (text .exit)) ⌝ }
-{
-    let mut next = at;
-    let mut k = 0;
-    while k < count {
-        let cell = cells[k];
-        next = write_cell(text, next, cell);
-        k += 1;
-    }
-    next
-}
-
-// The cell lines and the total bits at a place. Answers the place behind them.
+// The lines of the first so many cells at a place, from the top cell down, and their total bits. Answers the place behind them.
 pub(crate) fn write_cascade(
     text: &mut [u8],
     at: usize,
@@ -54,6 +33,11 @@ pub(crate) fn write_cascade(
     requires { ⌜ at + length (cascadeText cells count bits) ≤ length (now text) ⌝ }
     ensures { λ r. ⌜ Writes (now (text .entry)) at (cascadeText cells count bits) r (now (text .exit)) ⌝ }
 {
-    let next = write_cells(text, at, cells, count);
+    let mut next = at;
+    let mut k = 0;
+    while k < count {
+        next = write_cell(text, next, cells[k]);
+        k += 1;
+    }
     lines::fields::write_count(text, next, b"bits", bits)
 }

@@ -9,11 +9,12 @@ ghost use Rattle.listing.specs.Program.{textRoom};
 ghost use Rattle.lines.specs.Inner.Writing.{Writes};
 use cascade::Cell;
 use cascade::Verdict;
+use diagram::Built;
 
 // The numbers of the records that a listed table can have.
 const NODE_ROOM: usize = diagram::records::RECORD_SIZE * (crate::LISTED_VALUES - 1);
 
-// The text of an accepted table and of its planned cells, in front. Answers its length.
+// The text of an accepted table, which Build does not refuse, and of its planned cells, in front. Answers its length.
 fn write_table(
     n: usize,
     table: &[i32],
@@ -26,13 +27,11 @@ fn write_table(
     ensures { λ r. ⌜ Writes (now (text .entry)) 0 (tableText n (now (table .entry)) (groups cells count)) r (now (text .exit)) ⌝ }
 {
     let mut nodes = [0i32; NODE_ROOM];
-    match builder::build(n, table, &mut nodes) {
-        diagram::Built::Refused(number) => lines::fields::write_refusal(text, number),
-        diagram::Built::Diagram { nodes: all, offset } => {
-            let next = crate::node_lines::write_diagram(text, n, offset, &nodes, all - 1);
-            crate::cell_lines::write_cascade(text, next, cells, count, bits)
-        }
-    }
+    let Built::Diagram { nodes: all, offset } = builder::build(n, table, &mut nodes) else {
+        return 0;
+    };
+    let next = crate::node_lines::write_diagram(text, n, offset, &nodes, all - 1);
+    crate::cell_lines::write_cascade(text, next, cells, count, bits)
 }
 
 // The text of a table and an address limit, in front: Plan's refusal, or the table's lines. Answers its length.

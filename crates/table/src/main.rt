@@ -31,11 +31,12 @@ fn list_text(text: &[u8], out: &mut [u8; listing::TEXT_ROOM]) -> Answer
     ensures { λ r. ⌜ ListsText (now (text .entry)) (now (out .entry)) r (now (out .exit)) ⌝ }
 {
     let mut input = [0u8; decimal::INPUT_ROOM];
-    match decimal::parse(text, &mut input) {
-        Parsed::Input { length } => Answer::Listing(listing::list_input(&input[..length], out)),
-        Parsed::Wrong { line, expected } => Answer::Wrong { line, expected },
-        Parsed::TooShort => Answer::Listing(0),
-    }
+    let length = match decimal::parse(text, &mut input) {
+        Parsed::Input { length } => length,
+        Parsed::Wrong { line, expected } => return Answer::Wrong { line, expected },
+        Parsed::TooShort => return Answer::Listing(0),
+    };
+    Answer::Listing(listing::list_input(&input[..length], out))
 }
 
 // Writes a listing to standard output.

@@ -13,7 +13,7 @@ use Rattle.decimal.specs.Table.{isValueWord, valuesFound}
 use Rattle.decimal.specs.declared.Position.{Position}
 use Rattle.decimal.specs.Inner.Positions.{wordsAt}
 use Rattle.decimal.specs.Laws.Buffers.{front-taken}
-use Rattle.decimal.specs.Laws.Items.{SeenOther, SeenEnd}
+use Rattle.decimal.specs.Laws.Items.{SeenOther, some-word, no-word}
 use Rattle.decimal.specs.Laws.Positions.{byte-there, start-words}
 use Rattle.decimal.specs.Laws.Values.{ValuesSoFar}
 use Rattle.cases.specs.Text.{lineLength, lineNumbers, ReadsRow}
@@ -91,11 +91,9 @@ module _ {line : List ℕ} {row : List ℤ} {place : Position} {count : ℕ} {ro
   unfolding valuesFound
   row-full l = all-read (ap (λ k. valuesFound k (wordsAt line place)) (let e : length row - count ≡ 0 = omega arith in e))
 
-  pub other-next : {number : ℕ} → SeenOther line place number → ReadsRow line row count row′
-  other-next {number} s = all-read (ap (valuesFound (length row - count)) (s .first) ∙ none-of-other (length row - count) (record { line = number; bytes = s .word }) (s .more) (s .value))
-
-  pub nothing-next : {number : ℕ} → SeenEnd line place number → ReadsRow line row count row′
-  nothing-next s = all-read (ap (valuesFound (length row - count)) (s .none) ∙ none-of-none (length row - count))
+  pub nothing-next : {number : ℕ} → SeenOther line place number → ReadsRow line row count row′
+  nothing-next {number} (some-word s) = all-read (ap (valuesFound (length row - count)) (s .first) ∙ none-of-other (length row - count) (record { line = number; bytes = s .word }) (s .more) (s .value))
+  nothing-next (no-word s) = all-read (ap (valuesFound (length row - count)) (s .none) ∙ none-of-none (length row - count))
 
 -- The numbers that were read, taken out of the row again.
 few-found : (count : ℕ) (words : List Word) → length (valuesFound count words) ≤ count

@@ -2,8 +2,8 @@
 use Prim.Native.Nat.{ℕ, _+_}
 use mathlib.Core.Bool.{true, false, _&&_}
 use mathlib.Core.List.{List}
-use lib.ListN.{length, take, drop}
-use lib.Dec.{leb, eqb}
+use lib.ListN.{take, drop}
+use lib.Dec.{eqb}
 use lib.IntN.{ℤ}
 use lib.Signed.{mag}
 use Rattle.numbers.specs.Ranges.{within}
@@ -11,7 +11,7 @@ use Rattle.decimal.specs.declared.Position.{Position}
 use Rattle.decimal.specs.declared.Number.{Number}
 use Rattle.decimal.specs.declared.Number.the-variants.{Whole, NotWhole}
 use Rattle.decimal.specs.declared.Item.{Item}
-use Rattle.decimal.specs.declared.Item.the-variants.{Valued, Other, Ended}
+use Rattle.decimal.specs.declared.Item.the-variants.{Valued, Other}
 use Rattle.decimal.specs.declared.Heading.{Heading}
 use Rattle.decimal.specs.declared.Heading.the-variants.{Found, Missing}
 use Rattle.decimal.specs.Inner.Positions.{skipped, wordLength}
@@ -29,9 +29,9 @@ unfoldable pub wordItem : Number → Position → Item
 wordItem (Whole number) behind = Valued number (behind .line) (behind .at)
 wordItem NotWhole behind = Other (behind .line)
 
--- The item that starts at a place.
+-- The item that starts at a place. At the end of the text the word is empty, and no number.
 unfoldable pub itemThere : List ℕ → Position → Item
-itemThere text place = elim (leb (length text) (place .at)) [ true ↦ Ended (place .line) | false ↦ wordItem (wordNumber (wordThere text place)) (wordBehind text place) ]
+itemThere text place = wordItem (wordNumber (wordThere text place)) (wordBehind text place)
 
 -- The first item from a place on.
 unfoldable pub itemAt : List ℕ → Position → Item
@@ -41,7 +41,6 @@ itemAt text place = itemThere text (skipped text place)
 unfoldable pub headingOf : ℤ → ℤ → Item → Heading
 headingOf low high (Valued number line at) = elim (eqb line 1 && within low high number) [ true ↦ Found (mag number) at | false ↦ Missing ]
 headingOf low high (Other line) = Missing
-headingOf low high (Ended line) = Missing
 
 unfoldable pub headingAt : List ℕ → ℕ → ℤ → ℤ → Heading
 headingAt text at low high = headingOf low high (itemAt text (record { at = at; line = 1 }))

@@ -4,11 +4,11 @@ use mathlib.Core.Path.{_≡_, refl, sym, _∙_, ap, subst}
 use mathlib.Core.Bool.{true, false, _&&_, false≢true}
 use mathlib.Core.List.{List, [], _∷_}
 use native.Mathlib.Omega.{arith}
-use lib.ListN.{length}
+use lib.ListN.{length, take, drop-of-length-le}
 use lib.Dec.{leb, eqb}
 use lib.IntN.{ℤ, pos, negsuc}
 use lib.Signed.{mag}
-use borrow.Author.Tests.{le-leb, lt-leb, leb-true, leb-false, eqb-true, eqb-false, eq-eqb, ne-eqb}
+use borrow.Author.Tests.{le-leb, leb-true, leb-false, eqb-true, eqb-false, eq-eqb, ne-eqb}
 use Rattle.numbers.specs.Ranges.{within}
 use Rattle.numbers.specs.Laws.Bools.{yes-or-no, both, and-both}
 use Rattle.decimal.specs.Words.{Word, lastLine}
@@ -16,25 +16,21 @@ use Rattle.decimal.specs.Numbers.{isNumber, numberOf, isNumberFrom}
 use Rattle.decimal.specs.Table.{isValueWord, isHeading}
 use Rattle.decimal.specs.declared.Position.{Position}
 use Rattle.decimal.specs.declared.Item.{Item}
-use Rattle.decimal.specs.declared.Item.the-variants.{Valued, Other, Ended}
+use Rattle.decimal.specs.declared.Item.the-variants.{Valued, Other}
 use Rattle.decimal.specs.declared.Heading.{Heading}
 use Rattle.decimal.specs.declared.Heading.the-variants.{Found, Missing}
-use Rattle.decimal.specs.Inner.Positions.{wordsAt, PositionIn, skipped}
+use Rattle.decimal.specs.Inner.Positions.{wordsAt, PositionIn, skipped, wordLength}
 use Rattle.decimal.specs.Inner.Numbers.{isWhole, wordNumber}
 use Rattle.decimal.specs.Inner.Items.{wordThere, wordBehind, wordItem, itemThere, itemAt, headingOf, headingAt}
 use Rattle.decimal.specs.Laws.Positions.{Skipped, skipped-is, ended-words, ended-line, WordFirst, word-is}
-use Rattle.decimal.specs.Laws.Numbers.{one-fails, value-word, other-word}
+use Rattle.decimal.specs.Laws.Numbers.{one-fails, value-word, other-word, empty-word}
 
 -- ---- the item at a place
 
-module _ (text : List ℕ) (place : Position) where
-  pub there-ended : length text ≤ place .at → itemThere text place ≡ Ended (place .line)
-  unfolding itemThere
-  there-ended l = rw (le-leb (length text) (place .at) l, itemThere)
-
-  pub there-word : place .at < length text → itemThere text place ≡ wordItem (wordNumber (wordThere text place)) (wordBehind text place)
-  unfolding itemThere
-  there-word l = rw (lt-leb (length text) (place .at) l, itemThere)
+-- At the end of the text there is no number.
+there-ended : (text : List ℕ) (place : Position) → length text ≤ place .at → itemThere text place ≡ Other (place .line)
+unfolding itemThere wordThere wordItem wordBehind wordLength
+there-ended text place l = ap (λ number. wordItem number (wordBehind text place)) (ap (λ rest. wordNumber (take (wordLength rest) rest)) (drop-of-length-le text l) ∙ empty-word [] refl)
 
 -- A number: the first word, in front of those from the place behind it.
 pub record SeenValue (text : List ℕ) (place : Position) (number : ℤ) (behind : Position) : Type 0 where
@@ -46,7 +42,7 @@ pub record SeenValue (text : List ℕ) (place : Position) (number : ℤ) (behind
   pub further : place .at < behind .at
 
 -- Any other word.
-pub record SeenOther (text : List ℕ) (place : Position) (line : ℕ) : Type 0 where
+pub record SeenWord (text : List ℕ) (place : Position) (line : ℕ) : Type 0 where
   pub word : List ℕ
   pub more : List Word
   pub first : wordsAt text place ≡ record { line = line; bytes = word } ∷ more
@@ -57,23 +53,26 @@ pub record SeenEnd (text : List ℕ) (place : Position) (line : ℕ) : Type 0 wh
   pub none : wordsAt text place ≡ []
   pub last : line ≡ lastLine text
 
+-- No number.
+pub data SeenOther (text : List ℕ) (place : Position) (line : ℕ) : Type 0 where
+  some-word : SeenWord text place line → SeenOther text place line
+  no-word : SeenEnd text place line → SeenOther text place line
+
 -- What an item says of the words from a place on.
 abbrev pub Seen : List ℕ → Position → Item → Type 0
 Seen text place (Valued number line at) = SeenValue text place number (record { at = at; line = line })
 Seen text place (Other line) = SeenOther text place line
-Seen text place (Ended line) = SeenEnd text place line
 
 pub item-seen : {text : List ℕ} {place : Position} → PositionIn text place → Seen text place (itemAt text place)
-unfolding itemAt wordItem wordBehind
+unfolding itemAt itemThere wordItem wordBehind
 item-seen {text} {place} p =
     yes-or-no (leb (length text) (first .at))
-    (λ e. let l = leb-true (length text) (first .at) e in rw (there-ended text first l) (record { none = sym (s .same) ∙ ended-words text first l; last = ended-line (s .placed) l }))
+    (λ e. let l = leb-true (length text) (first .at) e in rw (there-ended text first l) (no-word (record { none = sym (s .same) ∙ ended-words text first l; last = ended-line (s .placed) l })))
     (λ e.
     let l = leb-false (length text) (first .at) e in
-    rw (there-word text first l)
-    (yes-or-no (isValueWord (wordThere text first))
+    yes-or-no (isValueWord (wordThere text first))
     (λ v. rw (value-word (wordThere text first) v) (valued v (word-is (s .placed) l (s .stopped l))))
-    (λ v. rw (other-word (wordThere text first) v) (other v (word-is (s .placed) l (s .stopped l))))))
+    (λ v. rw (other-word (wordThere text first) v) (some-word (other v (word-is (s .placed) l (s .stopped l))))))
   where
     first : Position
     first = skipped text place
@@ -91,7 +90,7 @@ item-seen {text} {place} p =
       further = (let f = s .further in let g = w .further in omega arith);
     }
 
-    other : isValueWord (wordThere text first) ≡ false → WordFirst text first → SeenOther text place (first .line)
+    other : isValueWord (wordThere text first) ≡ false → WordFirst text first → SeenWord text place (first .line)
     other v w = record { word = wordThere text first; more = wordsAt text (wordBehind text first); first = sym (s .same) ∙ w .first; value = v }
 
 -- ---- the first line
@@ -171,7 +170,7 @@ heading-seen text at low high few p = by-item (itemAt text place) (item-seen p)
         rw (heading-other-line (pos low) (pos high) number line next (eqb-false line 1 e))
         (first-only (record { line = line; bytes = s .word }) (wordsAt text (record { at = next; line = line })) (s .first)
         (ap (λ b. b && (isNumber (s .word) && within (pos low) (pos high) (numberOf (s .word)))) e)))
-    by-item (Other line) s =
+    by-item (Other line) (some-word s) =
         first-only (record { line = line; bytes = s .word }) (s .more) (s .first)
         (one-fails (eqb line 1) (isNumber (s .word) && within (pos low) (pos high) (numberOf (s .word))) no-number)
       where
@@ -182,4 +181,4 @@ heading-seen text at low high few p = by-item (itemAt text place) (item-seen p)
             let parts = both (isNumber (s .word)) (within (pos low) (pos high) (numberOf (s .word))) e in
             absurd (false≢true (sym (s .value) ∙ and-both (isNumber (s .word)) (isWhole (numberOf (s .word))) (parts .0) (narrower low high (numberOf (s .word)) few (parts .1)))))
             (λ e. e)
-    by-item (Ended line) s = λ word more e. let none = s .none in let z : _≡_ {A = ℕ} 0 1 = cc in absurd (omega arith)
+    by-item (Other line) (no-word s) = λ word more e. let none = s .none in let z : _≡_ {A = ℕ} 0 1 = cc in absurd (omega arith)

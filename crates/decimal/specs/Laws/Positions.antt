@@ -168,7 +168,7 @@ run-is (byte ∷ rest) =
         }
 
 -- A word ends within the text.
-pub word-fits : (text : List ℕ) (at : ℕ) → at < length text → at + wordLength (drop at text) ≤ length text
+pub word-fits : (text : List ℕ) (at : ℕ) → at ≤ length text → at + wordLength (drop at text) ≤ length text
 word-fits text at l = let f = run-is (drop at text) .few in let w = length-drop at text in omega arith
 
 -- Where there is a word its bytes are in front of the words behind it.

@@ -1,5 +1,5 @@
 -- What a text gives, step by step, and the answer for it.
-use Prim.Native.Nat.{ℕ, _+_, _*_, _^_, _≤_, _<_}
+use Prim.Native.Nat.{ℕ, _^_, _≤_, _<_}
 use mathlib.Core.Path.{_≡_, refl, sym, _∙_, ap}
 use mathlib.Core.Bool.{true, false}
 use mathlib.Core.List.{List, [], _∷_}
@@ -8,8 +8,8 @@ use lib.ListN.{length}
 use lib.Signed.{mag}
 use borrow.Author.Tests.{le-leb, lt-leb}
 use Rattle.numbers.specs.Ranges.{mostVariables}
-use Rattle.numbers.specs.Lists.{overwritten}
 use Rattle.numbers.specs.Laws.Rows.{overwritten-front}
+use Rattle.lines.specs.Inner.Writing.{Writes}
 use Rattle.decimal.specs.Words.{Word, lastLine}
 use Rattle.decimal.specs.Numbers.{numberOf}
 use Rattle.decimal.specs.Table.{Read, got, wrong, mapRead, Table, valuesRead, isHeading, hasMore, bodyRead, limitRead, wordsRead, textRead, inputOf, inputRoom, parsed, parsedBuffer, Reads, valuesFound}
@@ -24,7 +24,6 @@ use Rattle.decimal.specs.Inner.Values.{bodyJudged, Answers}
 use Rattle.decimal.specs.Laws.Positions.{start-words}
 use Rattle.decimal.specs.Laws.Items.{HeadingFound, HeadingSeen}
 use Rattle.decimal.specs.Laws.Values.{good-values}
-use Rattle.decimal.specs.Laws.Buffers.{input-length}
 
 -- ---- the first line
 
@@ -96,16 +95,12 @@ module _ (end n limit : ℕ) (words : List Word) where
   unfolding bodyRead
   body-values e = rw (e, bodyRead)
 
-  module _ (e : hasMore words ≡ false) (count : ℕ) (c : count ≡ 2 ^ n) where
-    pub body-wrong : (line : ℕ) (expected : Expected) → bodyJudged (valuesRead end count words) ≡ NotGood line expected → bodyRead end n limit words ≡ wrong line expected
-    body-wrong line expected w =
-        body-values e
-        ∙ ap (mapRead (λ values. record { n = n; limit = limit; values = values })) (ap (λ k. valuesRead end k words) (sym c) ∙ checked-wrong (valuesRead end count words) line expected w)
+  module _ (count : ℕ) (c : count ≡ 2 ^ n) where
+    pub table-wrong : (line : ℕ) (expected : Expected) → bodyJudged (valuesRead end count words) ≡ NotGood line expected → mapRead {B = Table} (λ values. record { n = n; limit = limit; values = values }) (valuesRead end (2 ^ n) words) ≡ wrong line expected
+    table-wrong line expected w = ap (mapRead (λ values. record { n = n; limit = limit; values = values })) (ap (λ k. valuesRead end k words) (sym c) ∙ checked-wrong (valuesRead end count words) line expected w)
 
-    pub body-good : bodyJudged (valuesRead end count words) ≡ Good → bodyRead end n limit words ≡ got (record { n = n; limit = limit; values = valuesFound count words })
-    body-good g =
-        body-values e
-        ∙ ap (mapRead (λ values. record { n = n; limit = limit; values = values })) (ap (λ k. valuesRead end k words) (sym c) ∙ good-values end count words g .0)
+    pub table-good : bodyJudged (valuesRead end count words) ≡ Good → mapRead {B = Table} (λ values. record { n = n; limit = limit; values = values }) (valuesRead end (2 ^ n) words) ≡ got (record { n = n; limit = limit; values = valuesFound count words })
+    table-good g = ap (mapRead (λ values. record { n = n; limit = limit; values = values })) (ap (λ k. valuesRead end k words) (sym c) ∙ good-values end count words g .0)
 
 -- ---- the answer
 
@@ -116,12 +111,16 @@ module _ {read : Read Table} where
   wrong-answers line expected buffer e = record { answered = sym (ap parsed e); left = sym (ap (λ read. parsedBuffer read buffer) e) }
 
   -- Else it has the input in front.
-  pub got-answers : (table : Table) (count : ℕ) (buffer : List ℕ) {buffer′ : List ℕ} → read ≡ got table → length (table .values) ≡ count → buffer′ ≡ overwritten buffer 0 (inputOf table) → Answers read buffer (Input (2 + 4 * count)) buffer′
+  pub got-answers : (table : Table) (buffer : List ℕ) {next : ℕ} {buffer′ : List ℕ} → read ≡ got table → Writes buffer 0 (inputOf table) next buffer′ → Answers read buffer (Input next) buffer′
   unfolding parsed parsedBuffer
-  got-answers table count buffer e c w = record {
-    answered = sym (ap parsed e ∙ ap Input (input-length table ∙ ap (λ k. 2 + 4 * k) c));
-    left = w ∙ overwritten-front buffer (inputOf table) ∙ sym (ap (λ read. parsedBuffer read buffer) e);
+  got-answers table buffer {next} e w = record {
+    answered = ap Input (let b = w .behind in let l : next ≡ length (inputOf table) = omega arith in l) ∙ sym (ap parsed e);
+    left = w .written ∙ overwritten-front buffer (inputOf table) ∙ sym (ap (λ read. parsedBuffer read buffer) e);
   }
+
+-- What is read in two ways has the same answer.
+pub same-answers : {read read′ : Read Table} {buffer : List ℕ} {answer : Parsed} {buffer′ : List ℕ} → read ≡ read′ → Answers read′ buffer answer buffer′ → Answers read buffer answer buffer′
+same-answers {buffer = buffer} e a = record { answered = a .answered ∙ sym (ap parsed e); left = a .left ∙ sym (ap (λ read. parsedBuffer read buffer) e) }
 
 module _ (text buffer : List ℕ) where
   -- A buffer that does not hold every input.
@@ -134,4 +133,5 @@ module _ (text buffer : List ℕ) where
   unfolding inputRoom mostVariables
   reads-enough l e a =
       let enough = le-leb 16386 (length buffer) l in
-      record { answered = rw enough (a .answered ∙ sym (ap parsed e)); left = rw enough (a .left ∙ sym (ap (λ read. parsedBuffer read buffer) e)) }
+      let same = same-answers e a in
+      record { answered = rw enough (same .answered); left = rw enough (same .left) }

@@ -18,7 +18,7 @@ use Rattle.decimal.specs.declared.Expected.the-variants.{Value}
 use Rattle.decimal.specs.declared.Body.the-variants.{Good, Wrong}
 use Rattle.decimal.specs.Inner.Positions.{wordsAt, PositionIn}
 use Rattle.decimal.specs.Inner.Values.{bodyJudged}
-use Rattle.decimal.specs.Laws.Items.{SeenValue, SeenOther, SeenEnd}
+use Rattle.decimal.specs.Laws.Items.{SeenValue, SeenOther, some-word, no-word}
 
 -- ---- one value more
 
@@ -144,21 +144,15 @@ module _ (text : List ℕ) (start : Position) (count : ℕ) (row : List ℤ) whe
       written-here : valuesFound (suc (count - (j + 1))) (wordsAt text place) ≡ [] → row′ ≡ overwritten row 0 (valuesFound count (wordsAt text start))
       written-here e = v .written ∙ ap (overwritten row 0) (sym (v .all ∙ ap (λ more. v .found ++ more) (ap (λ k. valuesFound k (wordsAt text place)) one-less ∙ e) ∙ append-nil (v .found)))
 
-      module _ {line : ℕ} (s : SeenOther text place line) where
-        pub other-checked : bodyJudged (valuesRead (lastLine text) count (wordsAt text start)) ≡ Wrong line Value
-        other-checked = wrong-here (ap (valuesRead (lastLine text) (suc (count - (j + 1)))) (s .first) ∙ other-read (lastLine text) (count - (j + 1)) (record { line = line; bytes = s .word }) (s .more) (s .value))
+      pub other-checked : {line : ℕ} → SeenOther text place line → bodyJudged (valuesRead (lastLine text) count (wordsAt text start)) ≡ Wrong line Value
+      unfolding valuesRead
+      other-checked {line} (some-word s) = wrong-here (ap (valuesRead (lastLine text) (suc (count - (j + 1)))) (s .first) ∙ other-read (lastLine text) (count - (j + 1)) (record { line = line; bytes = s .word }) (s .more) (s .value))
+      other-checked (no-word s) = wrong-here (ap (valuesRead (lastLine text) (suc (count - (j + 1)))) (s .none) ∙ ap (λ line. wrong line Value) (sym (s .last)))
 
-        pub other-written : row′ ≡ overwritten row 0 (valuesFound count (wordsAt text start))
-        other-written = written-here (ap (valuesFound (suc (count - (j + 1)))) (s .first) ∙ other-found (lastLine text) (count - (j + 1)) (record { line = line; bytes = s .word }) (s .more) (s .value))
-
-      module _ {line : ℕ} (s : SeenEnd text place line) where
-        pub ended-checked : bodyJudged (valuesRead (lastLine text) count (wordsAt text start)) ≡ Wrong line Value
-        unfolding valuesRead
-        ended-checked = wrong-here (ap (valuesRead (lastLine text) (suc (count - (j + 1)))) (s .none) ∙ ap (λ line. wrong line Value) (sym (s .last)))
-
-        pub ended-written : row′ ≡ overwritten row 0 (valuesFound count (wordsAt text start))
-        unfolding valuesFound
-        ended-written = written-here (ap (valuesFound (suc (count - (j + 1)))) (s .none))
+      pub other-written : {line : ℕ} → SeenOther text place line → row′ ≡ overwritten row 0 (valuesFound count (wordsAt text start))
+      unfolding valuesFound
+      other-written {line} (some-word s) = written-here (ap (valuesFound (suc (count - (j + 1)))) (s .first) ∙ other-found (lastLine text) (count - (j + 1)) (record { line = line; bytes = s .word }) (s .more) (s .value))
+      other-written (no-word s) = written-here (ap (valuesFound (suc (count - (j + 1)))) (s .none))
 
 -- ---- values that are all there
 

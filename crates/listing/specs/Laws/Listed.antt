@@ -10,7 +10,7 @@ use lib.Seq.{length-take-le, take-all, getD-take}
 use lib.Dec.{leb, eqb}
 use lib.Pow.{pow-mono}
 use lib.IntN.{ℤ, pos}
-use borrow.Author.Tests.{leb-true, leb-false, le-leb, lt-leb, eqb-true, eq-eqb, ne-eqb}
+use borrow.Author.Tests.{leb-true, leb-false, le-leb, lt-leb, eqb-true, eqb-false, eq-eqb, ne-eqb}
 use Rattle.numbers.specs.Answers.{Answer, accepted, refused, unless, andThen}
 use Rattle.numbers.specs.Lists.{numbersFrom, every}
 use Rattle.numbers.specs.Ranges.{mostVariables, isVariables, isLimit, isValue}
@@ -26,6 +26,7 @@ use Rattle.cascade.specs.Laws.Admitting.{plan-admits}
 use Rattle.cascade.specs.Laws.Chosen.{chosen-best, chosen-refuses-by-nine}
 use Rattle.cascade.specs.Laws.Lengths.{image-length-most}
 use Rattle.listing.specs.Listing.{mostListed, isListed, imageRoom, tableOf, listed, answerText, listing}
+use Rattle.listing.specs.Inner.Listed.{refusalOf}
 use Rattle.lines.specs.Text.{line}
 
 -- n of a table that is listed is from 1 to 11.
@@ -145,6 +146,29 @@ module _ (input : List ℕ) where
   plan-listed inside count =
       ap (answerText (getD input 0 0) (tableOf input))
       (listed-plan ∙ rw (le-leb 2 (length input) (omega arith), inside, eq-eqb (length input) (2 + 4 * 2 ^ getD input 0 0) count))
+
+-- ---- the checks on an input's bytes
+
+-- Their number is that of the listing's refusal, or 0 where the input has as many values as n asks for.
+pub data Checked (input : List ℕ) (number : ℕ) : Type 0 where
+  turned-away : (number ≡ 0 → ⊥) → listed input ≡ refused number → Checked input number
+  passed : number ≡ 0 → isListed (getD input 0 0) ≡ true → length input ≡ 2 + 4 * 2 ^ getD input 0 0 → Checked input number
+
+pub checked : (input : List ℕ) → Checked input (refusalOf input)
+unfolding refusalOf
+checked input =
+    yes-or-no (leb 2 (length input))
+    (λ e.
+    let two = leb-true 2 (length input) e in
+    rw e
+    (yes-or-no (isListed (getD input 0 0))
+    (λ inside.
+    rw inside
+    (yes-or-no (eqb (length input) (2 + 4 * 2 ^ getD input 0 0))
+    (λ same. rw same (passed refl inside (eqb-true (length input) (2 + 4 * 2 ^ getD input 0 0) same)))
+    (λ other. rw other (turned-away (λ z. omega arith) (listed-miscounted input two inside (eqb-false (length input) (2 + 4 * 2 ^ getD input 0 0) other))))))
+    (λ outside. rw outside (turned-away (λ z. omega arith) (listed-outside input two outside)))))
+    (λ e. rw e (turned-away (λ z. omega arith) (listed-under-two input (leb-false 2 (length input) e))))
 
 -- ---- the longest input
 

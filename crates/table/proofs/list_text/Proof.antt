@@ -62,17 +62,17 @@ enum-told c = search needs
 
 returns : tie.Need-returns
 returns c =
-    let known = c .before .before .before in
-    let p = known .before .before .before .before in
-    input-listed (start p .args .text .now) zeros (p .parse .result) (input p) (reads p) (room p) _ (known .before .length .given .1) _ _ _ (c .list-input .ensures)
-
-returns-2 : tie.Need-returns-2
-returns-2 c =
     let p = c .before .before .before .before in
     wrong-listed (start p .args .text .now) zeros (p .parse .result) (input p) (reads p) (room p) _ _ (c .before .line .given .1) _
 
+returns-2 : tie.Need-returns-2
+returns-2 c = let p = c .before .before .before in absurd (room-enough (start p .args .text .now) zeros (p .parse .result) (input p) (reads p) (room p) (c .enum-told .given .1))
+
 returns-3 : tie.Need-returns-3
-returns-3 c = let p = c .before .before .before in absurd (room-enough (start p .args .text .now) zeros (p .parse .result) (input p) (reads p) (room p) (c .enum-told .given .1))
+returns-3 c =
+    let known = c .before .before .before in
+    let p = known .before .before .before .before in
+    input-listed (start p .args .text .now) zeros (p .parse .result) (input p) (reads p) (room p) _ (known .before .length .given .1) _ _ _ (c .list-input .ensures)
 
 pub list-text-spec : {M : Type 1} → statement M
 list-text-spec =
@@ -81,11 +81,11 @@ list-text-spec =
     slice-aggregate-parse
     parse-requires
     enum-known-length
+    enum-known-line
+    returns
+    enum-told
+    returns-2
     array-share-prefix-input
     slice-aggregate-list-input
     list-input-requires
-    enum-known-line
-    enum-told
-    returns
-    returns-2
     returns-3)

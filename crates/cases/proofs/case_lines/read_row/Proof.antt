@@ -13,7 +13,7 @@ use Rattle.decimal.specs.declared.Item.{Item}
 use Rattle.decimal.specs.Laws.Items.{Seen, item-seen}
 use Rattle.decimal.specs.Laws.Positions.{start-place}
 use Rattle.decimal.specs.Laws.Values.{ValuesSoFar, no-values, values-kept, next-value}
-use Rattle.cases.specs.Laws.Text.{row-full, other-next, nothing-next}
+use Rattle.cases.specs.Laws.Text.{row-full, nothing-next}
 use Rattle.cases.proofs.case_lines.read_row.Statement.{statement}
 use Rattle.cases.proofs.case_lines.read_row.Tie as tie
 
@@ -64,16 +64,7 @@ same-length : tie.Need-same-length Inv-loop μ-loop
 same-length c = kept (c .before .before .before .before)
 
 returns : tie.Need-returns Inv-loop μ-loop
-returns c = let n = c .before .before in other-next (turn n .loop .inv) (seen n (c .enum-told .given .1))
-
-enum-told-2 : tie.Need-enum-told-2 Inv-loop μ-loop
-enum-told-2 c = search needs
-
-same-length-2 : tie.Need-same-length-2 Inv-loop μ-loop
-same-length-2 c = kept (c .before .before .before .before)
-
-returns-2 : tie.Need-returns-2 Inv-loop μ-loop
-returns-2 c = let n = c .before .before in nothing-next (turn n .loop .inv) (seen n (c .enum-told2 .given .1))
+returns c = let n = c .before .before in nothing-next (turn n .loop .inv) (seen n (c .enum-told .given .1))
 
 add-count : tie.Need-add-count Inv-loop μ-loop
 add-count c = let l = c .before .before .before .before .before in let k = kept l in let f = l .loop .inv .few in search needs
@@ -94,11 +85,11 @@ loop-again c =
     let t = n .before .loop-test .taken in
     rw (number-back c) (next-value (text l) _ _ (begun l .args .row .now) (l .loop .inv) (omega arith) (le-refl _) (seen n (c .before .number .given .1)))
 
-same-length-3 : tie.Need-same-length-3 Inv-loop μ-loop
-same-length-3 c = kept (c .before)
+same-length-2 : tie.Need-same-length-2 Inv-loop μ-loop
+same-length-2 c = kept (c .before)
 
-returns-3 : tie.Need-returns-3 Inv-loop μ-loop
-returns-3 c = let l = c .before in let k = kept l in let t = c .loop-test .left in row-full (l .loop .inv) (omega arith)
+returns-2 : tie.Need-returns-2 Inv-loop μ-loop
+returns-2 c = let l = c .before in let k = kept l in let t = c .loop-test .left in row-full (l .loop .inv) (omega arith)
 
 pub read-row-spec : {M : Type 1} → statement M
 read-row-spec =
@@ -114,11 +105,8 @@ read-row-spec =
     enum-told
     same-length
     returns
-    enum-told-2
-    same-length-2
-    returns-2
     add-count
     loop-less
     loop-again
-    same-length-3
-    returns-3)
+    same-length-2
+    returns-2)

@@ -37,37 +37,30 @@ module _ (c : tie.After-is-within) where
   test-is : c .is-within .result ≡ within (start (c .before .before .before) .args .low) (start (c .before .before .before) .args .high) (c .before .before .before .number .given .0 .0)
   test-is = let s = start (c .before .before .before) in c .is-within .ensures ∙ rw (toZ-ofZ (s .fits .low), toZ-ofZ (s .fits .high), number-back (c .before .before))
 
-returns : tie.Need-returns
-returns c = let n = c .before .before in sym (heading-other-line _ _ _ _ _ (c .if1 .taken)) ∙ heading-is n
+returns-2 : tie.Need-returns-2
+returns-2 c = let n = c .before .before in sym (heading-other-line _ _ _ _ _ (c .if1 .taken)) ∙ heading-is n
 
 is-within-requires : tie.Need-is-within-requires
 is-within-requires c κs = search needs
 
-returns-2 : tie.Need-returns-2
-returns-2 c = let n = c .before .before .before .before in sym (heading-outside _ _ _ _ _ (c .before .before .if1 .left) (sym (test-is (c .before)) ∙ not-true _ (c .if2 .taken))) ∙ heading-is n
+returns-3 : tie.Need-returns-3
+returns-3 c = let n = c .before .before .before .before in sym (heading-outside _ _ _ _ _ (c .before .before .if1 .left) (sym (test-is (c .before)) ∙ not-true _ (c .if2 .taken))) ∙ heading-is n
 
 unsigned-part-requires : tie.Need-unsigned-part-requires
 unsigned-part-requires c κs = search needs
 
-cast-t14 : tie.Need-cast-t14
-cast-t14 c = search needs
+cast-t13 : tie.Need-cast-t13
+cast-t13 c = search needs
 
 enum-told : tie.Need-enum-told
 enum-told c = search needs
 
-enum-told-2 : tie.Need-enum-told-2
-enum-told-2 c = search needs
-
-returns-3 : tie.Need-returns-3
-returns-3 c = let n = c .before .before .before .before .before in ap (λ size. Found size (n .number .given .0 .1 .1 .0)) (c .unsigned-part .ensures ∙ ap mag (number-back (c .before .before .before .before))) ∙ sym (heading-found _ _ _ _ _ (c .before .before .before .if1 .left) (sym (test-is (c .before .before)) ∙ not-false _ (c .before .if2 .left))) ∙ heading-is n
-
 returns-4 : tie.Need-returns-4
-unfolding headingAt headingOf
-returns-4 c = let s = c .before .before .before .before in ap (headingOf (s .args .low) (s .args .high)) (sym (c .enum-told .given .1) ∙ c .before .before .next-item .ensures)
+returns-4 c = let n = c .before .before .before .before .before in ap (λ size. Found size (n .number .given .0 .1 .1 .0)) (c .unsigned-part .ensures ∙ ap mag (number-back (c .before .before .before .before))) ∙ sym (heading-found _ _ _ _ _ (c .before .before .before .if1 .left) (sym (test-is (c .before .before)) ∙ not-false _ (c .before .if2 .left))) ∙ heading-is n
 
-returns-5 : tie.Need-returns-5
+returns : tie.Need-returns
 unfolding headingAt headingOf
-returns-5 c = let s = c .before .before .before .before in ap (headingOf (s .args .low) (s .args .high)) (sym (c .enum-told2 .given .1) ∙ c .before .before .next-item .ensures)
+returns c = let s = c .before .before .before .before in ap (headingOf (s .args .low) (s .args .high)) (sym (c .enum-told .given .1) ∙ c .before .before .next-item .ensures)
 
 pub heading-spec : {M : Type 1} → statement M
 heading-spec =
@@ -75,13 +68,11 @@ heading-spec =
     (tie.spec
     next-item-requires
     enum-known-number
-    returns
-    is-within-requires
-    returns-2
-    unsigned-part-requires
-    cast-t14
     enum-told
-    enum-told-2
+    returns
+    returns-2
+    is-within-requires
     returns-3
-    returns-4
-    returns-5)
+    unsigned-part-requires
+    cast-t13
+    returns-4)

@@ -48,18 +48,18 @@ read-digits-requires c κs =
 enum-known-size : tie.Need-enum-known-size
 enum-known-size c = search needs
 
+enum-told : tie.Need-enum-told
+enum-told c = search needs
+
 signed-requires : tie.Need-signed-requires
 unfolding largestSize
 signed-requires c κs = small (c .before) .0
 
-enum-told : tie.Need-enum-told
-enum-told c = search needs
+returns-3 : tie.Need-returns-3
+returns-3 c = c .signed .ensures ∙ sym (small (c .before .before) .1)
 
 returns-2 : tie.Need-returns-2
-returns-2 c = c .signed .ensures ∙ sym (small (c .before .before) .1)
-
-returns-3 : tie.Need-returns-3
-returns-3 c = let r = c .before .before in sym (word-not-small (word r) (some (r .before)) (sym (digits-there r) ∙ c .enum-told .given .1))
+returns-2 c = let r = c .before .before in sym (word-not-small (word r) (some (r .before)) (sym (digits-there r) ∙ c .enum-told .given .1))
 
 pub word-number-spec : {M : Type 1} → statement M
 word-number-spec =
@@ -70,7 +70,7 @@ word-number-spec =
     sign-length-requires
     read-digits-requires
     enum-known-size
-    signed-requires
     enum-told
     returns-2
+    signed-requires
     returns-3)

@@ -7,18 +7,19 @@ use mathlib.Core.List.{List}
 use lib.ListN.{length}
 use mir.Syntax.{w32}
 use mir.Val.{ofZ, toZ}
+use Rattle.decimal.specs.declared.Position.{Position}
 use Rattle.decimal.specs.declared.Item.{Item}
 use Rattle.decimal.specs.Laws.Items.{Seen, item-seen}
 use borrow.Author.Needs.{needs}
-use Rattle.decimal.specs.Laws.Values.{ValuesSoFar, no-values, values-kept, all-checked, all-written, next-value, other-checked, other-written, ended-checked, ended-written}
+use Rattle.decimal.specs.Laws.Values.{ValuesSoFar, no-values, values-kept, all-checked, all-written, next-value, other-checked, other-written}
 use Rattle.decimal.proofs.values.read_values.Statement.{statement}
 use Rattle.decimal.proofs.values.read_values.Tie as tie
 
 abbrev Inv-loop : tie.InvT-loop
-Inv-loop text count values₀ place₀ j₀ values place j = ValuesSoFar text place₀ count values₀ place j values
+Inv-loop text at count values₀ place₀ j₀ values place j = ValuesSoFar text place₀ count values₀ place j values
 
 abbrev μ-loop : tie.MeasureT-loop
-μ-loop text count values₀ place₀ j₀ values place j = count - j
+μ-loop text at count values₀ place₀ j₀ values place j = count - j
 
 -- The function's start, from the loop's head, and the row's length there.
 module _ (c : tie.At-loop Inv-loop μ-loop) where
@@ -28,8 +29,11 @@ module _ (c : tie.At-loop Inv-loop μ-loop) where
   abbrev text : List ℕ
   text = begun .args .text .now
 
+  abbrev started : Position
+  started = record { at = begun .args .at; line = 1 }
+
   kept : length (c .loop .values) ≡ length (begun .args .values .now)
-  kept = values-kept text (begun .args .start) (begun .args .count) (begun .args .values .now) (c .loop .inv) (begun .pre .1)
+  kept = values-kept text started (begun .args .count) (begun .args .values .now) (c .loop .inv) (begun .pre .1)
 
 -- What comes next, as it is seen.
 module _ (c : tie.After-next-item Inv-loop μ-loop) where
@@ -40,7 +44,7 @@ module _ (c : tie.After-next-item Inv-loop μ-loop) where
   seen e = subst (Seen (text turn) (turn .loop .place)) (sym (c .next-item .ensures) ∙ e) (item-seen (turn .loop .inv .placed))
 
 loop-holds : tie.Need-loop-holds Inv-loop μ-loop
-loop-holds c = let a = c .before .args in no-values (a .text .now) (a .start) (a .count) (a .values .now) (c .before .pre .0)
+loop-holds c = let a = c .before .args in no-values (a .text .now) (record { at = a .at; line = 1 }) (a .count) (a .values .now) (c .before .pre .0)
 
 next-item-requires : tie.Need-next-item-requires Inv-loop μ-loop
 next-item-requires c κs = c .before .loop .inv .placed
@@ -67,25 +71,8 @@ returns c =
     let a = begun l .args in
     let t = n .before .loop-test .taken in
     let s = seen n (c .before .line .given .1) in record {
-      answered = sym (other-checked (text l) (a .start) (a .count) (a .values .now) (l .loop .inv) t s);
-      left = other-written (text l) (a .start) (a .count) (a .values .now) (l .loop .inv) t s;
-    }
-
-enum-known-line-2 : tie.Need-enum-known-line-2 Inv-loop μ-loop
-enum-known-line-2 c = search needs
-
-same-length-2 : tie.Need-same-length-2 Inv-loop μ-loop
-same-length-2 c = kept (c .before .before .before .before .before)
-
-returns-2 : tie.Need-returns-2 Inv-loop μ-loop
-returns-2 c =
-    let n = c .before .before .before in
-    let l = turn n in
-    let a = begun l .args in
-    let t = n .before .loop-test .taken in
-    let s = seen n (c .before .line2 .given .1) in record {
-      answered = sym (ended-checked (text l) (a .start) (a .count) (a .values .now) (l .loop .inv) t s);
-      left = ended-written (text l) (a .start) (a .count) (a .values .now) (l .loop .inv) t s;
+      answered = sym (other-checked (text l) (started l) (a .count) (a .values .now) (l .loop .inv) t s);
+      left = other-written (text l) (started l) (a .count) (a .values .now) (l .loop .inv) t s;
     }
 
 add-j : tie.Need-add-j Inv-loop μ-loop
@@ -104,21 +91,21 @@ loop-again c =
     let n = c .before .before .before in
     let l = turn n in
     let a = begun l .args in
-    rw (number-back c) (next-value (text l) (a .start) (a .count) (a .values .now) (l .loop .inv) (n .before .loop-test .taken) (begun l .pre .1) (seen n (c .before .number .given .1)))
+    rw (number-back c) (next-value (text l) (started l) (a .count) (a .values .now) (l .loop .inv) (n .before .loop-test .taken) (begun l .pre .1) (seen n (c .before .number .given .1)))
 
 check-end-requires : tie.Need-check-end-requires Inv-loop μ-loop
 check-end-requires c κs = c .before .loop .inv .placed
 
-same-length-3 : tie.Need-same-length-3 Inv-loop μ-loop
-same-length-3 c = kept (c .before .before)
+same-length-2 : tie.Need-same-length-2 Inv-loop μ-loop
+same-length-2 c = kept (c .before .before)
 
-returns-3 : tie.Need-returns-3 Inv-loop μ-loop
-returns-3 c =
+returns-2 : tie.Need-returns-2 Inv-loop μ-loop
+returns-2 c =
     let l = c .before .before in
     let a = begun l .args in
     let all = c .before .loop-test .left in record {
-      answered = c .check-end .ensures ∙ sym (all-checked (text l) (a .start) (a .count) (a .values .now) (l .loop .inv) all);
-      left = all-written (text l) (a .start) (a .count) (a .values .now) (l .loop .inv) all;
+      answered = c .check-end .ensures ∙ sym (all-checked (text l) (started l) (a .count) (a .values .now) (l .loop .inv) all);
+      left = all-written (text l) (started l) (a .count) (a .values .now) (l .loop .inv) all;
     }
 
 pub read-values-spec : {M : Type 1} → statement M
@@ -135,12 +122,9 @@ read-values-spec =
     enum-known-line
     same-length
     returns
-    enum-known-line-2
-    same-length-2
-    returns-2
     add-j
     loop-less
     loop-again
     check-end-requires
-    same-length-3
-    returns-3)
+    same-length-2
+    returns-2)

@@ -1,16 +1,15 @@
 -- `words::next_item` meets its contract: past the separators there is the end or a word. Assumes nothing.
-use Prim.Native.Nat.{ℕ, _-_}
+use Prim.Native.Nat.{ℕ, _-_, _≤_}
 use mathlib.Core.Path.{_≡_, sym, _∙_, ap, ap₂}
 use native.Mathlib.Omega.{arith}
 use mathlib.Core.List.{List}
-use lib.ListN.{take, drop}
+use lib.ListN.{length, take, drop}
 use Rattle.decimal.specs.declared.Position.{Position}
 use Rattle.decimal.specs.declared.Item.the-variants.{Valued}
 use Rattle.decimal.specs.Inner.Positions.{wordLength}
 use Rattle.decimal.specs.Inner.Numbers.{wordNumber}
 use Rattle.decimal.specs.Inner.Items.{wordThere, wordBehind, wordItem, itemThere, itemAt}
-use Rattle.decimal.specs.Laws.Positions.{word-fits}
-use Rattle.decimal.specs.Laws.Items.{there-ended, there-word}
+use Rattle.decimal.specs.Laws.Positions.{skipped-is, word-fits}
 use borrow.Author.Needs.{needs}
 use Rattle.decimal.proofs.words.next_item.Statement.{statement}
 use Rattle.decimal.proofs.words.next_item.Tie as tie
@@ -18,17 +17,17 @@ use Rattle.decimal.proofs.words.next_item.Tie as tie
 skip-requires : tie.Need-skip-requires
 skip-requires c κs = search needs
 
--- The item is that of the place past the separators.
+-- The item is that of the place past the separators, which is in the text.
 module _ (c : tie.After-skip) where
+  inside : c .skip .result .at ≤ length (c .before .before .args .text .now)
+  inside = let p = skipped-is (c .before .before .pre) .placed .inside in let e = ap (λ (place : Position). place .at) (c .skip .ensures) in omega arith
+
   item-there : itemAt (c .before .before .args .text .now) (c .before .before .args .place) ≡ itemThere (c .before .before .args .text .now) (c .skip .result)
   unfolding itemAt
   item-there = ap (itemThere (c .before .before .args .text .now)) (sym (c .skip .ensures))
 
-returns : tie.Need-returns
-returns c = let s = c .before .before .before in sym (item-there (c .before) ∙ there-ended (s .args .text .now) (c .before .skip .result) (c .if1 .taken))
-
 word-end-requires : tie.Need-word-end-requires
-word-end-requires c κs = search needs
+word-end-requires c κs = inside c
 
 sub-word-number : tie.Need-sub-word-number
 sub-word-number c = search needs
@@ -37,7 +36,7 @@ part-word-number-start : tie.Need-part-word-number-start
 part-word-number-start c = search needs
 
 part-word-number-end : tie.Need-part-word-number-end
-part-word-number-end c = let s = c .before .before .before .before in let e = c .word-end .ensures in let f = word-fits (s .args .text .now) (c .before .before .skip .result .at) (c .before .if1 .left) in omega arith
+part-word-number-end c = let s = c .before .before .before in let e = c .word-end .ensures in let f = word-fits (s .args .text .now) (c .before .skip .result .at) (inside (c .before)) in omega arith
 
 word-number-requires : tie.Need-word-number-requires
 word-number-requires c κs = search needs
@@ -48,7 +47,7 @@ module _ (c : tie.After-word-number) where
   ended = c .before .before
 
   abbrev past : tie.After-skip
-  past = ended .before .before
+  past = ended .before
 
   abbrev text : List ℕ
   text = past .before .before .args .text .now
@@ -70,7 +69,8 @@ module _ (c : tie.After-word-number) where
   behind-is = ap (λ at. record { at = at; line = first .line }) (ended .word-end .ensures)
 
   item-is : wordItem (c .word-number .result) behind ≡ itemAt text (past .before .before .args .place)
-  item-is = ap₂ wordItem word-is behind-is ∙ sym (item-there past ∙ there-word text first (ended .before .if1 .left))
+  unfolding itemThere
+  item-is = ap₂ wordItem word-is behind-is ∙ sym (item-there past)
 
 enum-known-number : tie.Need-enum-known-number
 enum-known-number c = search needs
@@ -86,9 +86,9 @@ returns-2 c =
     ∙ ap (λ number. wordItem number (behind w)) (sym (c .before .number .given .1))
     ∙ item-is w
 
-returns-3 : tie.Need-returns-3
+returns : tie.Need-returns
 unfolding wordItem
-returns-3 c =
+returns c =
     let w = c .before .before in
     ap (λ number. wordItem number (behind w)) (sym (c .enum-told .given .1)) ∙ item-is w
 
@@ -97,7 +97,6 @@ next-item-spec =
     tie.close
     (tie.spec
     skip-requires
-    returns
     word-end-requires
     sub-word-number
     part-word-number-start
@@ -105,5 +104,5 @@ next-item-spec =
     word-number-requires
     enum-known-number
     enum-told
-    returns-2
-    returns-3)
+    returns
+    returns-2)

@@ -23,8 +23,8 @@ abbrev μ-loop : tie.MeasureT-loop
 loop-holds : tie.Need-loop-holds Inv-loop μ-loop
 loop-holds c = record { placed = c .before .pre; same = refl }
 
-shared-slice-read-is-separator : tie.Need-shared-slice-read-is-separator Inv-loop μ-loop
-shared-slice-read-is-separator c = search needs
+shared-slice-read-byte : tie.Need-shared-slice-read-byte Inv-loop μ-loop
+shared-slice-read-byte c = search needs
 
 is-separator-requires : tie.Need-is-separator-requires Inv-loop μ-loop
 is-separator-requires c κs = search needs
@@ -35,12 +35,9 @@ returns c =
     let a = l .before .before .args in
     sym (sym (l .loop .inv .same) ∙ skip-stops (l .loop .inv .placed) (c .before .before .before .loop-test .taken) (sym (c .before .is-separator .ensures) ∙ not-true _ (c .if1 .taken)))
 
-shared-slice-read-if2 : tie.Need-shared-slice-read-if2 Inv-loop μ-loop
-shared-slice-read-if2 c = search needs
-
 add-line : tie.Need-add-line Inv-loop μ-loop
 add-line c =
-    let l = c .before .before .before .before .before .before in
+    let l = c .before .before .before .before .before in
     let few = line-small (l .loop .inv .placed) in
     let g = l .before .before .good in
     omega arith
@@ -54,7 +51,7 @@ loop-less c = search needs
 -- A newline counts.
 module _ (c : tie.Joined2 Inv-loop μ-loop) where
   abbrev turn : tie.At-loop Inv-loop μ-loop
-  turn = c .before .before .before .before .before .before
+  turn = c .before .before .before .before .before
 
   line-there : c .if2 .line ≡ lineAfter (getD (turn .before .before .args .text .now) (turn .loop .at) 0) (turn .loop .line)
   unfolding isNewline
@@ -68,9 +65,9 @@ module _ (c : tie.Joined2 Inv-loop μ-loop) where
 loop-again : tie.Need-loop-again Inv-loop μ-loop
 unfolding stepped
 loop-again c =
-    let l = c .before .before .before .before .before .before in
-    let separator = sym (c .before .before .before .is-separator .ensures) ∙ not-false _ (c .before .before .if1 .left) in
-    rw (line-there c) (skipping-on (c .before .before .before .before .before .loop-test .taken) separator (l .loop .inv))
+    let l = turn c in
+    let separator = sym (c .before .before .is-separator .ensures) ∙ not-false _ (c .before .if1 .left) in
+    rw (line-there c) (skipping-on (c .before .before .before .before .loop-test .taken) separator (l .loop .inv))
 
 returns-2 : tie.Need-returns-2 Inv-loop μ-loop
 returns-2 c =
@@ -85,10 +82,9 @@ skip-spec =
     Inv-loop
     μ-loop
     loop-holds
-    shared-slice-read-is-separator
+    shared-slice-read-byte
     is-separator-requires
     returns
-    shared-slice-read-if2
     add-line
     add-at
     loop-less

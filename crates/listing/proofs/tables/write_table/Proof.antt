@@ -43,28 +43,24 @@ slice-aggregate-build c = search needs
 build-requires : tie.Need-build-requires
 build-requires c κs = search needs
 
-enum-known-number : tie.Need-enum-known-number
-enum-known-number c = search needs
-
--- Build does not refuse.
-module _ (c : tie.After-number) where
-  refuses : ⊥
-  refuses =
-      let b = c .before .before .before in
-      let s = start b in
-      never-refused (s .args .n) (s .args .table .now) (replicate 12282 (pos 0)) (left b) (b .build .result) (s .pre .admitted) (room b) (builds b) _ (c .number .given .1)
-
-write-refusal-requires : tie.Need-write-refusal-requires
-write-refusal-requires c κs = absurd (refuses (c .before .before))
-
 enum-known-all : tie.Need-enum-known-all
 enum-known-all c = search needs
 
 slice-aggregate-write-diagram : tie.Need-slice-aggregate-write-diagram
 slice-aggregate-write-diagram c = search needs
 
+enum-told : tie.Need-enum-told
+enum-told c = search needs
+
+-- Build does not refuse.
+returns : tie.Need-returns
+returns c =
+    let b = c .before .before .before in
+    let s = start b in
+    absurd (never-refused (s .args .n) (s .args .table .now) (replicate 12282 (pos 0)) (left b) (b .build .result) (s .pre .admitted) (room b) (builds b) _ (c .enum-told .given .1))
+
 -- Build answers the node count and the offset, and leaves the records in front of its buffer.
-module _ (c : tie.After-known-told2) where
+module _ (c : tie.After-known-told) where
   abbrev made : tie.After-build
   made = c .before .before .before .before
 
@@ -78,7 +74,7 @@ module _ (c : tie.After-known-told2) where
   count-is = let e = summary .0 in omega arith
 
   offset-is : toZ w32 (ofZ w32 (c .before .all .given .0 .1 .0)) ≡ offset (begun .args .table .now)
-  offset-is = toZ-ofZ (record { sfits = c .known-told2 .given .1 .0 .1 }) ∙ summary .1
+  offset-is = toZ-ofZ (record { sfits = c .known-told .given .1 .0 .1 }) ∙ summary .1
 
   there : RecordsThere (left made) (length (records (begun .args .n) (begun .args .table .now)))
   there = records-there (begun .args .n) (begun .args .table .now) (replicate 12282 (pos 0)) (left made) (made .build .result) (begun .pre .admitted) (room made) (builds made)
@@ -134,12 +130,6 @@ write-cascade-requires c κs =
 same-length : tie.Need-same-length
 same-length c = search needs
 
-returns : tie.Need-returns
-returns c = absurd (refuses (c .before .before .before .before .before))
-
-same-length-2 : tie.Need-same-length-2
-same-length-2 c = search needs
-
 returns-2 : tie.Need-returns-2
 returns-2 c =
     let d = c .before .before .before .before .before .before in
@@ -153,14 +143,12 @@ write-table-spec =
     (tie.spec
     slice-aggregate-build
     build-requires
-    enum-known-number
-    write-refusal-requires
     enum-known-all
+    enum-told
+    returns
     slice-aggregate-write-diagram
     sub-write-diagram
     write-diagram-requires
     write-cascade-requires
     same-length
-    returns
-    same-length-2
     returns-2)

@@ -1,7 +1,6 @@
--- `parse_body` meets its contract: nothing more on the first line, then the values, then their bytes. Assumes nothing.
+-- `parse_values` meets its contract: the values, then their bytes. Assumes nothing.
 use Prim.Native.Nat.{ℕ, _≤_}
 use mathlib.Core.Path.{_≡_, sym, _∙_, ap}
-use mathlib.Core.Bool.{false}
 use mathlib.Core.List.{List}
 use native.Mathlib.Omega.{arith}
 use lib.ListN.{length, take, replicate, length-replicate}
@@ -9,20 +8,19 @@ use lib.Pow.{pow-mono}
 use lib.IntN.{ℤ, pos}
 use Rattle.numbers.specs.Ranges.{mostVariables}
 use Rattle.decimal.specs.Words.{Word, lastLine}
-use Rattle.decimal.specs.Table.{Read, got, wrong, Table, hasMore, valuesRead, bodyRead, inputRoom, valuesFound}
+use Rattle.decimal.specs.Table.{Read, got, wrong, Table, valuesRead, inputRoom, valuesFound}
 use Rattle.decimal.specs.declared.Body.the-variants.{Good, Wrong as NotGood}
-use Rattle.decimal.specs.declared.Expected.the-variants.{LineEnd}
 use Rattle.decimal.specs.Inner.Positions.{wordsAt}
-use Rattle.decimal.specs.Inner.Values.{bodyJudged}
+use Rattle.decimal.specs.Inner.Values.{tableAt, bodyJudged}
 use Rattle.decimal.specs.Laws.Values.{good-values}
 use Rattle.decimal.specs.Laws.Buffers.{front-taken}
-use Rattle.decimal.specs.Laws.Tables.{body-more, body-wrong, body-good, wrong-answers, got-answers}
+use Rattle.decimal.specs.Laws.Tables.{table-wrong, table-good, wrong-answers, got-answers}
 use borrow.Author.Needs.{needs}
-use Rattle.decimal.proofs.parse_body.Statement.{statement}
-use Rattle.decimal.proofs.parse_body.Tie as tie
+use Rattle.decimal.proofs.parse_values.Statement.{statement}
+use Rattle.decimal.proofs.parse_values.Tie as tie
 
-has-more-requires : tie.Need-has-more-requires
-has-more-requires c κs = search needs
+power-requires : tie.Need-power-requires
+power-requires c κs = search needs
 
 -- The words behind the limit, and what they give.
 module _ (s : tie.Start) where
@@ -32,35 +30,19 @@ module _ (s : tie.Start) where
   abbrev words : List Word
   words = wordsAt (s .args .text .now) (record { at = s .args .at; line = 1 })
 
-  abbrev body : Read Table
-  body = bodyRead end (s .args .n) (s .args .limit) words
-
-module _ (c : tie.After-has-more) where
-  abbrev start : tie.Start
-  start = c .before .before .before
+  abbrev given : Read Table
+  given = tableAt (s .args .text .now) (s .args .at) (s .args .n) (s .args .limit)
 
 -- As many values as the row has places, at most.
 module _ (c : tie.After-power) where
   abbrev begun : tie.Start
-  begun = start (c .before .before)
-
-  none-more : hasMore (words begun) ≡ false
-  none-more = sym (c .before .before .has-more .ensures) ∙ c .before .if1 .left
+  begun = c .before .before .before
 
   most : c .power .result ≤ 4096
   most =
       let e = c .power .ensures in
       let m = pow-mono {i = begun .args .n} {j = 12} (begun .pre .few) in
       omega arith
-
-returns : tie.Need-returns
-returns c =
-    let s = start (c .before) in
-    let more = body-more (end s) (s .args .n) (s .args .limit) (words s) (sym (c .before .has-more .ensures) ∙ c .if1 .taken) in
-    wrong-answers 1 LineEnd (s .args .input .now) more
-
-power-requires : tie.Need-power-requires
-power-requires c κs = search needs
 
 slice-aggregate-read-values : tie.Need-slice-aggregate-read-values
 slice-aggregate-read-values c = search needs
@@ -96,8 +78,8 @@ module _ (c : tie.After-enum-told) where
   abbrev table : Table
   table = record { n = first read .args .n; limit = first read .args .limit; values = valuesFound (count read) (words (first read)) }
 
-  body-is : body (first read) ≡ got table
-  body-is = let s = first read in body-good (end s) (s .args .n) (s .args .limit) (words s) (none-more (counted read)) (count read) (counted read .power .ensures) good
+  table-is : given (first read) ≡ got table
+  table-is = let s = first read in table-good (end s) (s .args .n) (s .args .limit) (words s) (count read) (counted read .power .ensures) good
 
   many : length (table .values) ≡ count read
   many = good-values (end (first read)) (count read) (words (first read)) good .1
@@ -128,12 +110,6 @@ write-input-requires c κs =
     let room = s .pre .room in
     record { n-byte = omega arith; limit-byte = s .pre .limit-byte; room = rw (front t) (omega arith) }
 
-mul-t22 : tie.Need-mul-t22
-mul-t22 c = let m = most (c .before .before .before .before .before .before .before .before .before .before) in omega arith
-
-add-t23 : tie.Need-add-t23
-add-t23 c = let m = most (c .before .before .before .before .before .before .before .before .before .before) in omega arith
-
 -- Where they are not, the text goes wrong as they do.
 module _ (c : tie.After-known-told) where
   abbrev failed : tie.After-read-values
@@ -142,40 +118,36 @@ module _ (c : tie.After-known-told) where
   bad : bodyJudged (valuesRead (end (first failed)) (count failed) (words (first failed))) ≡ NotGood (c .before .line .given .0 .0) (c .before .line .given .0 .1 .0)
   bad = sym (failed .read-values .ensures .answered) ∙ c .before .line .given .1
 
-  body-fails : body (first failed) ≡ wrong (c .before .line .given .0 .0) (c .before .line .given .0 .1 .0)
-  body-fails =
+  table-fails : given (first failed) ≡ wrong (c .before .line .given .0 .0) (c .before .line .given .0 .1 .0)
+  table-fails =
       let s = first failed in
-      body-wrong (end s) (s .args .n) (s .args .limit) (words s) (none-more (counted failed)) (count failed) (counted failed .power .ensures) (c .before .line .given .0 .0) (c .before .line .given .0 .1 .0) bad
+      table-wrong (end s) (s .args .n) (s .args .limit) (words s) (count failed) (counted failed .power .ensures) (c .before .line .given .0 .0) (c .before .line .given .0 .1 .0) bad
 
-returns-2 : tie.Need-returns-2
-returns-2 c = wrong-answers _ _ (first (failed c) .args .input .now) (body-fails c)
+returns : tie.Need-returns
+returns c = wrong-answers _ _ (first (failed c) .args .input .now) (table-fails c)
 
 same-length : tie.Need-same-length
 same-length c = search needs
 
-returns-3 : tie.Need-returns-3
-returns-3 c =
+returns-2 : tie.Need-returns-2
+returns-2 c =
     let t = c .before .before .before .before .before in
     let s = first (read t) in
     let written = rw (front t) at (c .before .before .write-input .ensures) in
-    got-answers (table t) (count (read t)) (s .args .input .now) (body-is t) (many t) written
+    got-answers (table t) (s .args .input .now) (table-is t) written
 
-pub parse-body-spec : {M : Type 1} → statement M
-parse-body-spec =
+pub parse-values-spec : {M : Type 1} → statement M
+parse-values-spec =
     tie.close
     (tie.spec
-    has-more-requires
-    returns
     power-requires
     slice-aggregate-read-values
     read-values-requires
     enum-known-line
+    returns
     enum-told
     array-share-prefix-row
     slice-aggregate-write-input
     write-input-requires
-    mul-t22
-    add-t23
-    returns-2
     same-length
-    returns-3)
+    returns-2)

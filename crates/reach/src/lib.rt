@@ -55,19 +55,20 @@ pub fn reach(n: usize, table: &[i32], limit: usize) -> Reached
     let mut counts = [0usize; blocks::ALL_CUTS];
     let mut use_counts = [0usize; blocks::ALL_PLACES];
     match check_call(n, table, limit) {
-        Checked::Refused(number) => refused_reach(number),
-        Checked::Passed => {
-            let cuts = n + 1;
-            let places = numbers::arithmetic::power(cuts) - 1;
-            classes::class_table(
-                n,
-                table,
-                &mut classes[..places],
-                &mut firsts[..places],
-                &mut counts[..cuts],
-                &mut use_counts[..places],
-            );
-            crate::counts::reach_counts(n, limit, &counts[..cuts])
+        Checked::Refused(number) => {
+            return refused_reach(number);
         }
+        Checked::Passed => {}
     }
+    let cuts = n + 1;
+    let places = numbers::arithmetic::power(cuts) - 1;
+    classes::class_table(
+        n,
+        table,
+        &mut classes[..places],
+        &mut firsts[..places],
+        &mut counts[..cuts],
+        &mut use_counts[..places],
+    );
+    crate::counts::reach_counts(n, limit, &counts[..cuts])
 }

@@ -175,6 +175,7 @@ reach-spec =
     check-call-requires
     enum-known-number
     refused-reach-requires
+    returns
     enum-told
     add-cuts
     power-requires
@@ -191,5 +192,4 @@ reach-spec =
     array-share-prefix-counts
     slice-aggregate-reach-counts
     reach-counts-requires
-    returns
     returns-2)

@@ -22,14 +22,15 @@ pub fn plan_leaving_classes(
     ensures { λ r. ⌜ RowsLeft n (now (table .entry)) limit (now (classes .entry)) (now (firsts .entry)) (now (counts .entry)) (now (classes .exit)) (now (firsts .exit)) (now (counts .exit)) ⌝ }
 {
     match diagram::tables::check_table(n, table) {
-        numbers::Checked::Refused(number) => planning::refused_plan(number),
-        numbers::Checked::Passed => {
-            if !numbers::arithmetic::is_limit(limit) {
-                return planning::refused_plan(8);
-            }
-            planning::plan_rows(n, table, limit, classes, firsts, counts)
+        numbers::Checked::Refused(number) => {
+            return planning::refused_plan(number);
         }
+        numbers::Checked::Passed => {}
     }
+    if !numbers::arithmetic::is_limit(limit) {
+        return planning::refused_plan(8);
+    }
+    planning::plan_rows(n, table, limit, classes, firsts, counts)
 }
 
 // Plan: the sizes of the chosen grouping and its cells, or a refusal.

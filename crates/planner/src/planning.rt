@@ -39,12 +39,10 @@ fn plan_cuts(
 {
     let choices = crate::choices::choose_all(n, limit, table, firsts, counts);
     let top = choices[0];
-    match top {
-        Choice::NoList => refused_plan(9),
-        Choice::Costing { cost, size: _ } => {
-            crate::cells::list_cells(n, counts, use_counts, choices, cost)
-        }
-    }
+    let Choice::Costing { cost, size: _ } = top else {
+        return refused_plan(9);
+    };
+    crate::cells::list_cells(n, counts, use_counts, choices, cost)
 }
 
 // The classes of all cuts of a table with their use counts, and from them its plan.

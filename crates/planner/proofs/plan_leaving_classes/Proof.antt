@@ -39,8 +39,8 @@ module _ (c : tie.After-enum-told) where
   unfolding checked
   passed = passed-table (start .args .n) (start .args .table .now) (sym (c .before .before .check-table .ensures) ∙ ap checked (c .enum-told .given .1))
 
-returns : tie.Need-returns
-returns c =
+returns-2 : tie.Need-returns-2
+returns-2 c =
     let l = c .before .before in
     let s = start (l .before) in
     let unlimited = sym (l .is-limit .ensures) ∙ not-true _ (c .before .if1 .taken) in (
@@ -55,9 +55,9 @@ plan-rows-requires c κs =
     let l = e .before in
     ((passed (l .before), sym (l .is-limit .ensures) ∙ not-false _ (e .if1 .left)), start (l .before) .pre)
 
-returns-2 : tie.Need-returns-2
+returns : tie.Need-returns
 unfolding checked
-returns-2 c =
+returns c =
     let k = c .before .before .before .before in
     let s = k .before .before .before .before in
     let unfit = sym (k .check-table .ensures) ∙ ap checked (c .before .before .number .given .1) in (
@@ -92,12 +92,12 @@ plan-leaving-classes-spec =
     check-table-requires
     enum-known-number
     refused-plan-requires
+    returns
     enum-told
     is-limit-requires
     refused-plan-requires-2
-    returns
-    plan-rows-requires
     returns-2
+    plan-rows-requires
     same-length
     same-length-2
     same-length-3

@@ -81,9 +81,9 @@ plan-cuts-spec =
     (tie.spec
     choose-all-requires
     array-copy-out-top
+    enum-known-top
     enum-told
     refused-plan-requires
-    enum-known-top
-    list-cells-requires
     returns
+    list-cells-requires
     returns-2)

@@ -12,13 +12,9 @@ fn built_is(numbers: &[i32], answer: Built) -> bool
     let refusal = crate::rows::size_at(numbers, 3);
     match answer {
         Built::Diagram { nodes, offset } => {
-            if refusal != 0 {
-                return false;
-            }
-            if crate::rows::size_at(numbers, 4) != nodes {
-                return false;
-            }
-            crate::rows::is_at(numbers, 5, 0, offset)
+            refusal == 0
+                && (crate::rows::size_at(numbers, 4) == nodes
+                    && crate::rows::is_at(numbers, 5, 0, offset))
         }
         Built::Refused(number) => refusal == number as usize,
     }
@@ -35,10 +31,7 @@ pub fn build(numbers: &[i32], table: &[i32], front: &[i32]) -> bool
         return false;
     }
     let answer = builder::build(n, table, &mut lent[..places]);
-    if !built_is(numbers, answer) {
-        return false;
-    }
-    crate::fronts::numbers_hold(&lent[..places], front)
+    built_is(numbers, answer) && crate::fronts::numbers_hold(&lent[..places], front)
 }
 
 // Whether Walk answers so.
@@ -50,12 +43,7 @@ pub fn walk(numbers: &[i32], records: &[i32]) -> bool
     let x = crate::rows::size_at(numbers, 3);
     let refusal = crate::rows::size_at(numbers, 4);
     match walker::walk(n, offset, records, x) {
-        Walked::Value(value) => {
-            if refusal != 0 {
-                return false;
-            }
-            crate::rows::is_at(numbers, 5, 0, value)
-        }
+        Walked::Value(value) => refusal == 0 && crate::rows::is_at(numbers, 5, 0, value),
         Walked::Refused(number) => refusal == number as usize,
     }
 }

@@ -13,15 +13,7 @@ pub(crate) fn ran_is(refusal: usize, value: i32, words: usize, answer: Ran) -> b
         Ran::Value {
             value: found,
             words: read,
-        } => {
-            if refusal != 0 {
-                return false;
-            }
-            if words != read {
-                return false;
-            }
-            found == value
-        }
+        } => refusal == 0 && (words == read && found == value),
         Ran::Refused(number) => refusal == number as usize,
     }
 }
@@ -69,8 +61,5 @@ pub fn expand(numbers: &[i32], image: &[i32], front: &[i32]) -> bool
         return false;
     }
     let answer = runner::expand(&bytes[..image.len()], &mut lent[..places]);
-    if !expanded_is(numbers, answer) {
-        return false;
-    }
-    crate::fronts::numbers_hold(&lent[..places], front)
+    expanded_is(numbers, answer) && crate::fronts::numbers_hold(&lent[..places], front)
 }

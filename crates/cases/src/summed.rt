@@ -13,10 +13,7 @@ fn filled_is(numbers: &[i32], answer: Summed, table: &[i32], front: &[i32]) -> b
         Summed::Table => 0,
         Summed::Refused(number) => number as usize,
     };
-    if refusal != told {
-        return false;
-    }
-    crate::fronts::numbers_hold(table, front)
+    refusal == told && crate::fronts::numbers_hold(table, front)
 }
 
 // Whether Sum answers so, and leaves these values in front of the lent table.

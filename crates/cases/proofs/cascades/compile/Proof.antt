@@ -7,7 +7,6 @@ use native.Mathlib.Omega.{arith}
 use lib.ListN.{length, take, replicate}
 use lib.Seq.{length-take-le, take-at}
 use lib.IntN.{ℤ, pos}
-use borrow.Author.Tests.{not-true, not-false}
 use borrow.Author.Needs.{needs}
 use Rattle.cascade.specs.Compile.{outcome}
 use Rattle.cascade.specs.Rows.{cellRow}
@@ -70,22 +69,15 @@ module _ (c : tie.After-compile) where
 outcome-is-requires : tie.Need-outcome-is-requires
 outcome-is-requires c κs = search needs
 
-returns-2 : tie.Need-returns-2
-returns-2 c = sym (judged (c .before .before .before) ∙ failed _ (sym (c .before .outcome-is .ensures) ∙ not-true _ (c .if2 .taken)))
-
--- Where the outcome is the expected one, the cells and the lent image decide.
+-- The cells are compared as rows.
 module _ (c : tie.After-cell-rows) where
-  abbrev right : tie.Else2
-  right = c .before .before
-
   abbrev done : tie.After-compile
-  done = right .before .before .before
+  done = c .before .before .before
 
-  cells-judged : compilePasses (numbers done) (start done .args .table .now) (start done .args .cells .now) (start done .args .front .now) ≡ (sizesAre (c .cell-rows .result) (start done .args .cells .now) && frontHolds (pos byteLent) (map pos (left done)) (start done .args .front .now))
+  cells-judged : compilePasses (numbers done) (start done .args .table .now) (start done .args .cells .now) (start done .args .front .now) ≡ (outcomeIs (numbers done) (outcome (done .compile .result .outcome)) && (sizesAre (c .cell-rows .result) (start done .args .cells .now) && frontHolds (pos byteLent) (map pos (left done)) (start done .args .front .now)))
   cells-judged =
       judged done
-      ∙ passed _ (sym (right .before .outcome-is .ensures) ∙ not-false _ (right .if2 .left))
-      ∙ ap (λ row. sizesAre row (start done .args .cells .now) && frontHolds (pos byteLent) (map pos (left done)) (start done .args .front .now)) (sym (c .cell-rows .ensures))
+      ∙ ap (λ row. outcomeIs (numbers done) (outcome (done .compile .result .outcome)) && (sizesAre row (start done .args .cells .now) && frontHolds (pos byteLent) (map pos (left done)) (start done .args .front .now))) (sym (c .cell-rows .ensures))
 
 cell-rows-requires : tie.Need-cell-rows-requires
 cell-rows-requires c κs = search needs
@@ -96,26 +88,37 @@ slice-aggregate-sizes-are c = search needs
 sizes-are-requires : tie.Need-sizes-are-requires
 sizes-are-requires c κs = search needs
 
+returns-4 : tie.Need-returns-4
+returns-4 c = c .if2 .left ∙ sym (cells-judged (c .before .before) ∙ failed _ (sym (c .before .outcome-is .ensures) ∙ c .if2 .left))
+
 returns-3 : tie.Need-returns-3
-returns-3 c = sym (cells-judged (c .before .before .before) ∙ failed _ (sym (c .before .sizes-are .ensures) ∙ not-true _ (c .if3 .taken)))
+returns-3 c =
+    let o = c .before .before .before in
+    c .if3 .left
+    ∙ sym
+    (cells-judged (o .before .before)
+    ∙ passed _ (sym (o .before .outcome-is .ensures) ∙ o .if2 .taken)
+    ∙ failed _ (sym (c .before .sizes-are .ensures) ∙ c .if3 .left))
 
 array-share-prefix-lent : tie.Need-array-share-prefix-lent
-array-share-prefix-lent c = let d = done (c .before .before .before) in front-within (left d) _ (kept d)
+array-share-prefix-lent c = let d = done (c .before .before .before .before .before) in front-within (left d) _ (kept d)
 
 slice-aggregate-bytes-hold : tie.Need-slice-aggregate-bytes-hold
-slice-aggregate-bytes-hold c = let d = done (c .before .before .before .before) in front-length (left d) _ (kept d)
+slice-aggregate-bytes-hold c = let d = done (c .before .before .before .before .before .before) in front-length (left d) _ (kept d)
 
 bytes-hold-requires : tie.Need-bytes-hold-requires
 bytes-hold-requires c κs = search needs
 
-returns-4 : tie.Need-returns-4
-returns-4 c =
+returns-2 : tie.Need-returns-2
+returns-2 c =
     let s = c .before .before in
-    let r = s .before .before .before in
+    let o = s .before .before .before in
+    let r = o .before .before in
     let d = done r in
     sym
     (cells-judged r
-    ∙ passed _ (sym (s .before .sizes-are .ensures) ∙ not-false _ (s .if3 .left))
+    ∙ passed _ (sym (o .before .outcome-is .ensures) ∙ o .if2 .taken)
+    ∙ passed _ (sym (s .before .sizes-are .ensures) ∙ s .if3 .taken)
     ∙ sym (c .bytes-hold .ensures ∙ ap (λ row. frontHolds (pos byteLent) (map pos row) (start d .args .front .now)) (take-at (left d) _ (sized d .size-at3 .result) (kept d))))
 
 pub compile-spec : {M : Type 1} → statement M
@@ -129,13 +132,13 @@ compile-spec =
     array-borrow-prefix-lent
     slice-aggregate-compile
     compile-requires
-    outcome-is-requires
-    returns-2
     cell-rows-requires
+    outcome-is-requires
     slice-aggregate-sizes-are
     sizes-are-requires
-    returns-3
     array-share-prefix-lent
     slice-aggregate-bytes-hold
     bytes-hold-requires
+    returns-2
+    returns-3
     returns-4)

@@ -7,7 +7,6 @@ use native.Mathlib.Omega.{arith}
 use lib.ListN.{length, take, replicate}
 use lib.Seq.{length-take-le, take-at}
 use lib.IntN.{ℤ}
-use borrow.Author.Tests.{not-true, not-false}
 use borrow.Author.Needs.{needs}
 use Rattle.diagram.specs.Build.{built}
 use Rattle.cases.specs.Rows.{numberLent, frontHolds}
@@ -66,10 +65,10 @@ module _ (c : tie.After-build) where
 built-is-requires : tie.Need-built-is-requires
 built-is-requires c κs = search needs
 
-returns-2 : tie.Need-returns-2
-returns-2 c =
+returns-3 : tie.Need-returns-3
+returns-3 c =
     let b = c .before .before .before in
-    sym (judged b ∙ failed _ (sym (c .before .built-is .ensures) ∙ not-true _ (c .if2 .taken)))
+    c .if2 .left ∙ sym (judged b ∙ failed _ (sym (c .before .built-is .ensures) ∙ c .if2 .left))
 
 array-share-prefix-lent : tie.Need-array-share-prefix-lent
 array-share-prefix-lent c = front-within (left (c .before .before .before)) _ (kept (c .before .before .before))
@@ -80,13 +79,13 @@ slice-aggregate-numbers-hold c = front-length (left (c .before .before .before .
 numbers-hold-requires : tie.Need-numbers-hold-requires
 numbers-hold-requires c κs = search needs
 
-returns-3 : tie.Need-returns-3
-returns-3 c =
+returns-2 : tie.Need-returns-2
+returns-2 c =
     let p = c .before .before in
     let b = p .before .before .before in
     sym
     (judged b
-    ∙ passed _ (sym (p .before .built-is .ensures) ∙ not-false _ (p .if2 .left))
+    ∙ passed _ (sym (p .before .built-is .ensures) ∙ p .if2 .taken)
     ∙ sym (c .numbers-hold .ensures ∙ ap (λ row. frontHolds numberLent row (start b .args .front .now)) (take-at (left b) _ (sized b .size-at2 .result) (kept b))))
 
 pub build-spec : {M : Type 1} → statement M
@@ -100,8 +99,8 @@ build-spec =
     slice-aggregate-build
     build-requires
     built-is-requires
-    returns-2
     array-share-prefix-lent
     slice-aggregate-numbers-hold
     numbers-hold-requires
+    returns-2
     returns-3)

@@ -7,7 +7,6 @@ use native.Mathlib.Omega.{arith}
 use lib.ListN.{length, take, replicate, length-map}
 use lib.Seq.{length-take-le, take-at}
 use lib.IntN.{ℤ}
-use borrow.Author.Tests.{not-true, not-false}
 use borrow.Author.Needs.{needs}
 use Rattle.image.specs.Run.{expanded}
 use Rattle.cases.specs.Rows.{byteOf, numberLent, frontHolds}
@@ -93,8 +92,8 @@ module _ (c : tie.After-expand) where
 expanded-is-requires : tie.Need-expanded-is-requires
 expanded-is-requires c κs = search needs
 
-returns-3 : tie.Need-returns-3
-returns-3 c = sym (judged (c .before .before .before) ∙ failed _ (sym (c .before .expanded-is .ensures) ∙ not-true _ (c .if3 .taken)))
+returns-4 : tie.Need-returns-4
+returns-4 c = c .if3 .left ∙ sym (judged (c .before .before .before) ∙ failed _ (sym (c .before .expanded-is .ensures) ∙ c .if3 .left))
 
 array-share-prefix-lent : tie.Need-array-share-prefix-lent
 array-share-prefix-lent c = front-within (left (c .before .before .before)) _ (kept (c .before .before .before))
@@ -105,13 +104,13 @@ slice-aggregate-numbers-hold c = front-length (left (c .before .before .before .
 numbers-hold-requires : tie.Need-numbers-hold-requires
 numbers-hold-requires c κs = search needs
 
-returns-4 : tie.Need-returns-4
-returns-4 c =
+returns-3 : tie.Need-returns-3
+returns-3 c =
     let p = c .before .before in
     let b = p .before .before .before in
     sym
     (judged b
-    ∙ passed _ (sym (p .before .expanded-is .ensures) ∙ not-false _ (p .if3 .left))
+    ∙ passed _ (sym (p .before .expanded-is .ensures) ∙ p .if3 .taken)
     ∙ sym (c .numbers-hold .ensures ∙ ap (λ row. frontHolds numberLent row (front b)) (take-at (left b) _ (sized b .size-at .result) (kept b))))
 
 pub expand-spec : {M : Type 1} → statement M
@@ -129,8 +128,8 @@ expand-spec =
     slice-aggregate-expand-2
     expand-requires
     expanded-is-requires
-    returns-3
     array-share-prefix-lent
     slice-aggregate-numbers-hold
     numbers-hold-requires
+    returns-3
     returns-4)

@@ -41,11 +41,4 @@ returns c =
     ∙ ap (λ k. eqb k (r .before .before .args .second)) (sym (c .size-at3 .ensures .0)))
 
 pub two-sizes-are-spec : {M : Type 1} → statement M
-two-sizes-are-spec = tie.close
-    (tie.spec
-    size-at-requires
-    size-at-requires-2
-    size-at-requires-3
-    returns
-    returns-2
-    returns-3)
+two-sizes-are-spec = tie.close (tie.spec size-at-requires size-at-requires-2 size-at-requires-3 returns returns-2 returns-3)

@@ -57,13 +57,13 @@ fn outcome_is(numbers: &[i32], answer: Outcome) -> bool
 pub fn compile(numbers: &[i32], table: &[i32], cells: &[i32], front: &[i32]) -> bool
     ensures { λ r. ⌜ r ≡ compilePasses (now (numbers .entry)) (now (table .entry)) (now (cells .entry)) (now (front .entry)) ⌝ }
 {
-    let n = crate::rows::size_at(numbers, 1);
-    let limit = crate::rows::size_at(numbers, 2);
     let places = crate::rows::size_at(numbers, 3);
-    let mut lent = [crate::fronts::BYTE; 512];
-    if lent.len() < places {
+    if crate::fronts::MOST_BYTES < places {
         return false;
     }
+    let n = crate::rows::size_at(numbers, 1);
+    let limit = crate::rows::size_at(numbers, 2);
+    let mut lent = [crate::fronts::BYTE; crate::fronts::MOST_BYTES];
     let compiled = compiler::compile(n, table, limit, &mut lent[..places]);
     let answer = compiled.outcome;
     let list = compiled.cells;

@@ -5,6 +5,9 @@ ghost use Rattle.cases.specs.DiagramCases.{builtIs, buildPasses, walkPas
 use diagram::Built;
 use diagram::Walked;
 
+// The most numbers that Build leaves.
+const MOST_NUMBERS: usize = 24570;
+
 // Whether Build's answer is the expected one.
 fn built_is(numbers: &[i32], answer: Built) -> bool
     ensures { λ r. ⌜ r ≡ builtIs (now (numbers .entry)) (built answer) ⌝ }
@@ -24,12 +27,12 @@ fn built_is(numbers: &[i32], answer: Built) -> bool
 pub fn build(numbers: &[i32], table: &[i32], front: &[i32]) -> bool
     ensures { λ r. ⌜ r ≡ buildPasses (now (numbers .entry)) (now (table .entry)) (now (front .entry)) ⌝ }
 {
-    let n = crate::rows::size_at(numbers, 1);
     let places = crate::rows::size_at(numbers, 2);
-    let mut lent = [crate::fronts::NUMBER; 24570];
-    if lent.len() < places {
+    if MOST_NUMBERS < places {
         return false;
     }
+    let n = crate::rows::size_at(numbers, 1);
+    let mut lent = [crate::fronts::NUMBER; MOST_NUMBERS];
     let answer = builder::build(n, table, &mut lent[..places]);
     built_is(numbers, answer) && crate::fronts::numbers_hold(&lent[..places], front)
 }

@@ -13,6 +13,9 @@ pub const NUMBER: i32 = -77;
 // What a lent row of bytes holds before the call.
 pub const BYTE: u8 = 165;
 
+// The most bytes that an image of a case has.
+pub const MOST_BYTES: usize = 512;
+
 // Whether a lent row holds these numbers, and behind them what it was lent with.
 pub(crate) fn numbers_hold(row: &[i32], front: &[i32]) -> bool
     ensures { λ r. ⌜ r ≡ frontHolds numberLent (now (row .entry)) (now (front .entry)) ⌝ }

@@ -1,6 +1,6 @@
 -- `case_cascades::compile` meets its contract: what Compile answered and left decides. Assumes nothing.
 use Prim.Native.Nat.{ℕ, _≤_}
-use mathlib.Core.Path.{_≡_, sym, _∙_, ap}
+use mathlib.Core.Path.{_≡_, refl, sym, _∙_, ap}
 use mathlib.Core.Bool.{_&&_}
 use mathlib.Core.List.{List, map, flatMap}
 use native.Mathlib.Omega.{arith}
@@ -29,25 +29,28 @@ size-at-requires-3 c κs = search needs
 returns : tie.Need-returns
 returns c =
     let k = c .before in
-    let a = k .before .before .before .args in
-    sym (compile-too-many (a .numbers .now) (a .table .now) (k .before .before .size-at .ensures .0) (k .before .size-at2 .ensures .0) (a .cells .now) (a .front .now) (k .size-at3 .ensures .0) (c .if1 .taken))
+    let a = k .before .args in
+    sym (compile-too-many (a .numbers .now) (a .table .now) refl refl (a .cells .now) (a .front .now) (k .size-at .ensures .0) (c .if1 .taken))
 
 array-borrow-prefix-lent : tie.Need-array-borrow-prefix-lent
 array-borrow-prefix-lent c = search needs
 
 slice-aggregate-compile : tie.Need-slice-aggregate-compile
-slice-aggregate-compile c = sym (length-take-le _ _ (let few : c .before .before .size-at3 .result ≤ 512 = omega arith in few))
+slice-aggregate-compile c = sym (length-take-le _ _ (let few : c .before .before .before .before .size-at .result ≤ 512 = omega arith in few))
 
 compile-requires : tie.Need-compile-requires
 compile-requires c κs = search needs
 
 -- What Compile left, and what decides.
 module _ (c : tie.After-compile) where
-  abbrev sized : tie.After-size-at3
-  sized = c .before .before .before
+  abbrev asked : tie.After-size-at3
+  asked = c .before .before
+
+  abbrev sized : tie.After-size-at
+  sized = asked .before .before .before
 
   abbrev start : tie.Start
-  start = sized .before .before .before
+  start = sized .before
 
   abbrev numbers : List ℤ
   numbers = start .args .numbers .now
@@ -55,16 +58,16 @@ module _ (c : tie.After-compile) where
   abbrev left : List ℕ
   left = c .compile .last .1 .1 .1 .0
 
-  few : sized .size-at3 .result ≤ 512
+  few : sized .size-at .result ≤ 512
   few = omega arith
 
-  kept : length left ≡ sized .size-at3 .result
+  kept : length left ≡ sized .size-at .result
   kept = c .compile .kept .1 .1 .1 .0 ∙ length-take-le _ _ few
 
   judged : compilePasses numbers (start .args .table .now) (start .args .cells .now) (start .args .front .now) ≡ (outcomeIs numbers (outcome (c .compile .result .outcome)) && (sizesAre (flatMap cellRow (c .compile .result .cells)) (start .args .cells .now) && frontHolds (pos byteLent) (map pos left) (start .args .front .now)))
   judged =
-      compile-judged numbers (start .args .table .now) (sized .before .before .size-at .ensures .0) (sized .before .size-at2 .ensures .0) (start .args .cells .now) (start .args .front .now) (sized .size-at3 .ensures .0)
-      (take (sized .size-at3 .result) (replicate 512 byteLent)) (c .compile .result) left few (lent-front byteLent (sized .size-at3 .result) 512 few) (c .compile .ensures)
+      compile-judged numbers (start .args .table .now) (asked .before .size-at2 .ensures .0) (asked .size-at3 .ensures .0) (start .args .cells .now) (start .args .front .now) (sized .size-at .ensures .0)
+      (take (sized .size-at .result) (replicate 512 byteLent)) (c .compile .result) left few (lent-front byteLent (sized .size-at .result) 512 few) (c .compile .ensures)
 
 outcome-is-requires : tie.Need-outcome-is-requires
 outcome-is-requires c κs = search needs
@@ -119,16 +122,16 @@ returns-2 c =
     (cells-judged r
     ∙ passed _ (sym (o .before .outcome-is .ensures) ∙ o .if2 .taken)
     ∙ passed _ (sym (s .before .sizes-are .ensures) ∙ s .if3 .taken)
-    ∙ sym (c .bytes-hold .ensures ∙ ap (λ row. frontHolds (pos byteLent) (map pos row) (start d .args .front .now)) (take-at (left d) _ (sized d .size-at3 .result) (kept d))))
+    ∙ sym (c .bytes-hold .ensures ∙ ap (λ row. frontHolds (pos byteLent) (map pos row) (start d .args .front .now)) (take-at (left d) _ (sized d .size-at .result) (kept d))))
 
 pub compile-spec : {M : Type 1} → statement M
 compile-spec =
     tie.close
     (tie.spec
     size-at-requires
+    returns
     size-at-requires-2
     size-at-requires-3
-    returns
     array-borrow-prefix-lent
     slice-aggregate-compile
     compile-requires

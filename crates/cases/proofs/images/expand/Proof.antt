@@ -31,7 +31,7 @@ size-at-requires c κs = search needs
 
 returns-2 : tie.Need-returns-2
 returns-2 c =
-    let l = c .before .before .before .before .before in
+    let l = c .before .before in
     let a = l .before .args in
     sym (expand-too-many (a .numbers .now) (a .image .now) (a .front .now) (l .if1 .left) (c .before .size-at .ensures .0) (c .if2 .taken))
 
@@ -49,8 +49,8 @@ module _ (c : tie.After-bytes3) where
   abbrev image : List ℤ
   image = start .before .args .image .now
 
-  bytes-are : take (length image) (c .before .before .before .before .put-bytes .last .0) ≡ map byteOf image
-  bytes-are = bytes-front _ image (c .before .before .before .before .put-bytes .ensures)
+  bytes-are : take (length image) (c .before .before .put-bytes .last .0) ≡ map byteOf image
+  bytes-are = bytes-front _ image (c .before .before .put-bytes .ensures)
 
 slice-aggregate-expand : tie.Need-slice-aggregate-expand
 slice-aggregate-expand c = sym (ap length (bytes-are c) ∙ length-map (image c) byteOf)
@@ -59,7 +59,7 @@ array-borrow-prefix-lent : tie.Need-array-borrow-prefix-lent
 array-borrow-prefix-lent c = search needs
 
 slice-aggregate-expand-2 : tie.Need-slice-aggregate-expand-2
-slice-aggregate-expand-2 c = sym (length-take-le _ _ (let few : c .before .before .before .size-at .result ≤ 4096 = omega arith in few))
+slice-aggregate-expand-2 c = sym (length-take-le _ _ (let few : c .before .before .before .before .before .before .size-at .result ≤ 4096 = omega arith in few))
 
 expand-requires : tie.Need-expand-requires
 expand-requires c κs = search needs
@@ -70,7 +70,7 @@ module _ (c : tie.After-expand) where
   image-lent = c .before .before
 
   abbrev sized : tie.After-size-at
-  sized = image-lent .before .before
+  sized = image-lent .before .before .before .before .before
 
   abbrev front : List ℤ
   front = start image-lent .before .args .front .now
@@ -118,10 +118,10 @@ expand-spec =
     tie.close
     (tie.spec
     returns
-    slice-aggregate-put-bytes
-    put-bytes-requires
     size-at-requires
     returns-2
+    slice-aggregate-put-bytes
+    put-bytes-requires
     array-share-prefix-bytes
     slice-aggregate-expand
     array-borrow-prefix-lent

@@ -13,7 +13,7 @@ class-cuts-requires : tie.Need-class-cuts-requires
 class-cuts-requires c κs =
     let at = c .before .before .before .before .before .before in
     let a = at .before .before .before .before .before .before .before .before .args in
-    sizes-room (a .n) (a .table .now) (a .classes .now) (a .firsts .now) (a .counts .now) (a .tried .now) (a .uses .now) (a .use-counts .now) (sym (at .before .sizes-fit .ensures) ∙ at .if1 .taken)
+    sizes-room (a .n) (a .table .now) (a .classes .now) (a .firsts .now) (a .counts .now) (a .tried .now) (a .uses .now) (a .use-counts .now) (at .before .sizes-fit .ensures) (at .if1 .taken)
 
 same-length : tie.Need-same-length
 same-length c = search needs

@@ -3,7 +3,6 @@ use Prim.Native.Nat.{ℕ, _≤_}
 use mathlib.Core.Path.{_≡_, refl, sym, _∙_, ap}
 use mathlib.Core.Bool.{_&&_}
 use mathlib.Core.List.{List, map, flatMap}
-use native.Mathlib.Omega.{arith}
 use lib.ListN.{length, take, replicate}
 use lib.Seq.{length-take-le, take-at}
 use lib.IntN.{ℤ, pos}
@@ -33,10 +32,10 @@ returns c =
     sym (compile-too-many (a .numbers .now) (a .table .now) refl refl (a .cells .now) (a .front .now) (k .size-at .ensures .0) (c .if1 .taken))
 
 array-borrow-prefix-lent : tie.Need-array-borrow-prefix-lent
-array-borrow-prefix-lent c = search needs
+array-borrow-prefix-lent c = c .before .before .if1 .left
 
 slice-aggregate-compile : tie.Need-slice-aggregate-compile
-slice-aggregate-compile c = sym (length-take-le _ _ (let few : c .before .before .before .before .size-at .result ≤ 512 = omega arith in few))
+slice-aggregate-compile c = sym (length-take-le _ _ (let few : c .before .before .before .before .size-at .result ≤ 512 = c .before .before .before .if1 .left in few))
 
 compile-requires : tie.Need-compile-requires
 compile-requires c κs = search needs
@@ -59,7 +58,7 @@ module _ (c : tie.After-compile) where
   left = c .compile .last .1 .1 .1 .0
 
   few : sized .size-at .result ≤ 512
-  few = omega arith
+  few = asked .before .before .if1 .left
 
   kept : length left ≡ sized .size-at .result
   kept = c .compile .kept .1 .1 .1 .0 ∙ length-take-le _ _ few

@@ -3,7 +3,6 @@ use Prim.Native.Nat.{_≤_}
 use mathlib.Core.Path.{_≡_, refl, sym, _∙_, ap}
 use mathlib.Core.Bool.{_&&_}
 use mathlib.Core.List.{List}
-use native.Mathlib.Omega.{arith}
 use lib.ListN.{length, take, replicate}
 use lib.Seq.{length-take-le, take-at}
 use lib.IntN.{ℤ}
@@ -29,10 +28,10 @@ returns c =
     sym (build-too-many (a .numbers .now) (a .table .now) (a .front .now) refl (k .size-at .ensures .0) (c .if1 .taken))
 
 array-borrow-prefix-lent : tie.Need-array-borrow-prefix-lent
-array-borrow-prefix-lent c = search needs
+array-borrow-prefix-lent c = c .before .if1 .left
 
 slice-aggregate-build : tie.Need-slice-aggregate-build
-slice-aggregate-build c = sym (length-take-le _ _ (let few : c .before .before .before .size-at .result ≤ 24570 = omega arith in few))
+slice-aggregate-build c = sym (length-take-le _ _ (let few : c .before .before .before .size-at .result ≤ 24570 = c .before .before .if1 .left in few))
 
 build-requires : tie.Need-build-requires
 build-requires c κs = search needs
@@ -52,7 +51,7 @@ module _ (c : tie.After-build) where
   left = c .build .last .1 .1 .0
 
   few : sized .size-at .result ≤ 24570
-  few = omega arith
+  few = lent .before .before .if1 .left
 
   kept : length left ≡ sized .size-at .result
   kept = c .build .kept .1 .1 .0 ∙ length-take-le _ _ few

@@ -3,7 +3,6 @@ use Prim.Native.Nat.{_≤_}
 use mathlib.Core.Path.{_≡_, sym, _∙_, ap}
 use mathlib.Core.Bool.{_&&_}
 use mathlib.Core.List.{List, map}
-use native.Mathlib.Omega.{arith}
 use lib.ListN.{length, take, replicate, length-map}
 use lib.Seq.{length-take-le, take-at}
 use lib.IntN.{ℤ}
@@ -59,7 +58,7 @@ array-borrow-prefix-lent : tie.Need-array-borrow-prefix-lent
 array-borrow-prefix-lent c = search needs
 
 slice-aggregate-expand-2 : tie.Need-slice-aggregate-expand-2
-slice-aggregate-expand-2 c = sym (length-take-le _ _ (let few : c .before .before .before .before .before .before .size-at .result ≤ 4096 = omega arith in few))
+slice-aggregate-expand-2 c = sym (length-take-le _ _ (let few : c .before .before .before .before .before .before .size-at .result ≤ 4096 = c .before .before .before .before .before .if2 .left in few))
 
 expand-requires : tie.Need-expand-requires
 expand-requires c κs = search needs
@@ -79,7 +78,7 @@ module _ (c : tie.After-expand) where
   left = c .expand .last .1 .0
 
   few : sized .size-at .result ≤ 4096
-  few = omega arith
+  few = image-lent .before .before .before .before .if2 .left
 
   kept : length left ≡ sized .size-at .result
   kept = c .expand .kept .1 .0 ∙ length-take-le _ _ few

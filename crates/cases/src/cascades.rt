@@ -24,16 +24,11 @@ pub fn plan(numbers: &[i32], table: &[i32], sizes: &[i32], cells: &[i32]) -> boo
     let limit = crate::rows::size_at(numbers, 2);
     let planned = planner::plan(n, table, limit);
     let verdict = planned.verdict;
-    if !verdict_is(numbers, verdict) {
-        return false;
-    }
     let chosen = planned.sizes;
-    if !crate::fronts::sizes_are(&chosen, sizes) {
-        return false;
-    }
     let list = planned.cells;
     let row = cascade::cell_rows::cell_rows(list);
-    crate::fronts::sizes_are(&row, cells)
+    verdict_is(numbers, verdict)
+        && (crate::fronts::sizes_are(&chosen, sizes) && crate::fronts::sizes_are(&row, cells))
 }
 
 // Whether Compile's outcome is the expected one.
@@ -48,19 +43,11 @@ fn outcome_is(numbers: &[i32], answer: Outcome) -> bool
             cells,
             bits,
         } => {
-            if refusal != 0 {
-                return false;
-            }
-            if crate::rows::size_at(numbers, 5) != length {
-                return false;
-            }
-            if crate::rows::size_at(numbers, 6) != nodes {
-                return false;
-            }
-            if crate::rows::size_at(numbers, 7) != cells {
-                return false;
-            }
-            crate::rows::size_at(numbers, 8) == bits
+            refusal == 0
+                && (crate::rows::size_at(numbers, 5) == length
+                    && (crate::rows::size_at(numbers, 6) == nodes
+                        && (crate::rows::size_at(numbers, 7) == cells
+                            && crate::rows::size_at(numbers, 8) == bits)))
         }
         Outcome::Refused(number) => refusal == number as usize,
     }
@@ -70,22 +57,18 @@ fn outcome_is(numbers: &[i32], answer: Outcome) -> bool
 pub fn compile(numbers: &[i32], table: &[i32], cells: &[i32], front: &[i32]) -> bool
     ensures { λ r. ⌜ r ≡ compilePasses (now (numbers .entry)) (now (table .entry)) (now (cells .entry)) (now (front .entry)) ⌝ }
 {
+    let places = crate::rows::size_at(numbers, 3);
+    if crate::fronts::MOST_BYTES < places {
+        return false;
+    }
     let n = crate::rows::size_at(numbers, 1);
     let limit = crate::rows::size_at(numbers, 2);
-    let places = crate::rows::size_at(numbers, 3);
-    let mut lent = [crate::fronts::BYTE; 512];
-    if lent.len() < places {
-        return false;
-    }
+    let mut lent = [crate::fronts::BYTE; crate::fronts::MOST_BYTES];
     let compiled = compiler::compile(n, table, limit, &mut lent[..places]);
     let answer = compiled.outcome;
-    if !outcome_is(numbers, answer) {
-        return false;
-    }
     let list = compiled.cells;
     let row = cascade::cell_rows::cell_rows(list);
-    if !crate::fronts::sizes_are(&row, cells) {
-        return false;
-    }
-    crate::fronts::bytes_hold(&lent[..places], front)
+    outcome_is(numbers, answer)
+        && (crate::fronts::sizes_are(&row, cells)
+            && crate::fronts::bytes_hold(&lent[..places], front))
 }

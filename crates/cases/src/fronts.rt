@@ -13,13 +13,13 @@ pub const NUMBER: i32 = -77;
 // What a lent row of bytes holds before the call.
 pub const BYTE: u8 = 165;
 
+// The most bytes that an image of a case has.
+pub const MOST_BYTES: usize = 512;
+
 // Whether a lent row holds these numbers, and behind them what it was lent with.
 pub(crate) fn numbers_hold(row: &[i32], front: &[i32]) -> bool
     ensures { λ r. ⌜ r ≡ frontHolds numberLent (now (row .entry)) (now (front .entry)) ⌝ }
 {
-    if row.len() < front.len() {
-        return false;
-    }
     let mut i = 0;
     while i < row.len() {
         if !crate::rows::is_at(front, i, NUMBER, row[i]) {
@@ -27,16 +27,13 @@ pub(crate) fn numbers_hold(row: &[i32], front: &[i32]) -> bool
         }
         i += 1;
     }
-    true
+    front.len() <= i
 }
 
 // The same of a lent row of bytes.
 pub(crate) fn bytes_hold(row: &[u8], front: &[i32]) -> bool
     ensures { λ r. ⌜ r ≡ frontHolds (pos byteLent) (map pos (now (row .entry))) (now (front .entry)) ⌝ }
 {
-    if row.len() < front.len() {
-        return false;
-    }
     let mut i = 0;
     while i < row.len() {
         if !crate::rows::is_at(front, i, BYTE as i32, row[i] as i32) {
@@ -44,16 +41,13 @@ pub(crate) fn bytes_hold(row: &[u8], front: &[i32]) -> bool
         }
         i += 1;
     }
-    true
+    front.len() <= i
 }
 
 // Whether an answer's sizes are these, with 0 past the last.
 pub(crate) fn sizes_are(sizes: &[usize], expected: &[i32]) -> bool
     ensures { λ r. ⌜ r ≡ sizesAre (now (sizes .entry)) (now (expected .entry)) ⌝ }
 {
-    if sizes.len() < expected.len() {
-        return false;
-    }
     let mut i = 0;
     while i < sizes.len() {
         if sizes[i] != crate::rows::size_at(expected, i) {
@@ -61,7 +55,7 @@ pub(crate) fn sizes_are(sizes: &[usize], expected: &[i32]) -> bool
         }
         i += 1;
     }
-    true
+    expected.len() <= i
 }
 
 // The numbers of a row as bytes, in front of a lent one that is no shorter.

@@ -13,15 +13,7 @@ pub(crate) fn ran_is(refusal: usize, value: i32, words: usize, answer: Ran) -> b
         Ran::Value {
             value: found,
             words: read,
-        } => {
-            if refusal != 0 {
-                return false;
-            }
-            if words != read {
-                return false;
-            }
-            found == value
-        }
+        } => refusal == 0 && (words == read && found == value),
         Ran::Refused(number) => refusal == number as usize,
     }
 }
@@ -30,10 +22,10 @@ pub(crate) fn ran_is(refusal: usize, value: i32, words: usize, answer: Ran) -> b
 pub fn run(numbers: &[i32], image: &[i32]) -> bool
     ensures { λ r. ⌜ r ≡ runPasses (now (numbers .entry)) (now (image .entry)) ⌝ }
 {
-    let mut bytes = [0u8; 512];
-    if bytes.len() < image.len() {
+    if crate::fronts::MOST_BYTES < image.len() {
         return false;
     }
+    let mut bytes = [0u8; crate::fronts::MOST_BYTES];
     crate::fronts::put_bytes(&mut bytes, image);
     let x = crate::rows::size_at(numbers, 1);
     let answer = runner::run(&bytes[..image.len()], x);
@@ -58,19 +50,16 @@ fn expanded_is(numbers: &[i32], answer: Expanded) -> bool
 pub fn expand(numbers: &[i32], image: &[i32], front: &[i32]) -> bool
     ensures { λ r. ⌜ r ≡ expandPasses (now (numbers .entry)) (now (image .entry)) (now (front .entry)) ⌝ }
 {
-    let mut bytes = [0u8; 512];
-    if bytes.len() < image.len() {
+    if crate::fronts::MOST_BYTES < image.len() {
         return false;
     }
-    crate::fronts::put_bytes(&mut bytes, image);
     let places = crate::rows::size_at(numbers, 1);
+    if numbers::MOST_VALUES < places {
+        return false;
+    }
+    let mut bytes = [0u8; crate::fronts::MOST_BYTES];
+    crate::fronts::put_bytes(&mut bytes, image);
     let mut lent = [crate::fronts::NUMBER; numbers::MOST_VALUES];
-    if lent.len() < places {
-        return false;
-    }
     let answer = runner::expand(&bytes[..image.len()], &mut lent[..places]);
-    if !expanded_is(numbers, answer) {
-        return false;
-    }
-    crate::fronts::numbers_hold(&lent[..places], front)
+    expanded_is(numbers, answer) && crate::fronts::numbers_hold(&lent[..places], front)
 }

@@ -6,10 +6,10 @@ ghost use Rattle.cases.specs.PairCases.{pairRunPasses};
 pub fn pair_run(numbers: &[i32], image: &[i32]) -> bool
     ensures { λ r. ⌜ r ≡ pairRunPasses (now (numbers .entry)) (now (image .entry)) ⌝ }
 {
-    let mut bytes = [0u8; 512];
-    if bytes.len() < image.len() {
+    if crate::fronts::MOST_BYTES < image.len() {
         return false;
     }
+    let mut bytes = [0u8; crate::fronts::MOST_BYTES];
     crate::fronts::put_bytes(&mut bytes, image);
     let m = crate::rows::size_at(numbers, 1);
     let x = crate::rows::size_at(numbers, 2);

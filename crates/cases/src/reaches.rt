@@ -22,9 +22,6 @@ pub fn reach(numbers: &[i32], table: &[i32], cuts: &[i32]) -> bool
     let limit = crate::rows::size_at(numbers, 2);
     let reached = reach::reach(n, table, limit);
     let verdict = reached.verdict;
-    if !verdict_is(numbers, verdict) {
-        return false;
-    }
     let list = reached.cuts;
-    crate::fronts::sizes_are(&list, cuts)
+    verdict_is(numbers, verdict) && crate::fronts::sizes_are(&list, cuts)
 }

@@ -25,19 +25,11 @@ fn reported_is(numbers: &[i32], expected: &[i32], answer: Reported) -> bool
             greatest,
             sum,
         } => {
-            if refusal != 0 {
-                return false;
-            }
-            if crate::rows::size_at(numbers, 6) != count {
-                return false;
-            }
-            if !crate::rows::is_at(numbers, 7, 0, least) {
-                return false;
-            }
-            if !crate::rows::is_at(numbers, 8, 0, greatest) {
-                return false;
-            }
-            sum == sum_of(expected)
+            refusal == 0
+                && (crate::rows::size_at(numbers, 6) == count
+                    && (crate::rows::is_at(numbers, 7, 0, least)
+                        && (crate::rows::is_at(numbers, 8, 0, greatest)
+                            && sum == sum_of(expected))))
         }
         Reported::Refused(number) => refusal == number as usize,
     }

@@ -31,11 +31,5 @@ pub(crate) fn is_at(row: &[i32], at: usize, past: i32, number: i32) -> bool
 pub(crate) fn two_sizes_are(numbers: &[i32], first: usize, second: usize) -> bool
     ensures { λ r. ⌜ r ≡ twoSizesAre (now (numbers .entry)) first second ⌝ }
 {
-    if size_at(numbers, 3) != 0 {
-        return false;
-    }
-    if size_at(numbers, 4) != first {
-        return false;
-    }
-    size_at(numbers, 5) == second
+    size_at(numbers, 3) == 0 && (size_at(numbers, 4) == first && size_at(numbers, 5) == second)
 }

@@ -13,22 +13,19 @@ fn filled_is(numbers: &[i32], answer: Summed, table: &[i32], front: &[i32]) -> b
         Summed::Table => 0,
         Summed::Refused(number) => number as usize,
     };
-    if refusal != told {
-        return false;
-    }
-    crate::fronts::numbers_hold(table, front)
+    refusal == told && crate::fronts::numbers_hold(table, front)
 }
 
 // Whether Sum answers so, and leaves these values in front of the lent table.
 pub fn sum(numbers: &[i32], weights: &[i32], front: &[i32]) -> bool
     ensures { λ r. ⌜ r ≡ sumPasses (now (numbers .entry)) (now (weights .entry)) (now (front .entry)) ⌝ }
 {
-    let mut lent = [crate::fronts::NUMBER; numbers::MOST_VALUES];
-    let n = crate::rows::size_at(numbers, 1);
     let places = crate::rows::size_at(numbers, 2);
-    if lent.len() < places {
+    if numbers::MOST_VALUES < places {
         return false;
     }
+    let n = crate::rows::size_at(numbers, 1);
+    let mut lent = [crate::fronts::NUMBER; numbers::MOST_VALUES];
     let answer = sums::sum(n, weights, &mut lent[..places]);
     filled_is(numbers, answer, &lent[..places], front)
 }
@@ -37,12 +34,12 @@ pub fn sum(numbers: &[i32], weights: &[i32], front: &[i32]) -> bool
 pub fn remainder(numbers: &[i32], weights: &[i32], front: &[i32]) -> bool
     ensures { λ r. ⌜ r ≡ remainderPasses (now (numbers .entry)) (now (weights .entry)) (now (front .entry)) ⌝ }
 {
-    let mut lent = [crate::fronts::NUMBER; numbers::MOST_VALUES];
-    let n = crate::rows::size_at(numbers, 1);
     let places = crate::rows::size_at(numbers, 2);
-    if lent.len() < places {
+    if numbers::MOST_VALUES < places {
         return false;
     }
+    let n = crate::rows::size_at(numbers, 1);
+    let mut lent = [crate::fronts::NUMBER; numbers::MOST_VALUES];
     let q = crate::rows::size_at(numbers, 4);
     let answer = sums::remainder(n, weights, q, &mut lent[..places]);
     filled_is(numbers, answer, &lent[..places], front)

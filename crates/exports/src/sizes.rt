@@ -16,19 +16,8 @@ fn rows_have(
 ) -> bool
     ensures { λ r. ⌜ r ≡ every (eqb places) (classes ∷ firsts ∷ tried ∷ uses ∷ «use_counts» ∷ []) ⌝ }
 {
-    if places != classes {
-        return false;
-    }
-    if places != firsts {
-        return false;
-    }
-    if places != tried {
-        return false;
-    }
-    if places != uses {
-        return false;
-    }
-    places == use_counts
+    places == classes
+        && (places == firsts && (places == tried && (places == uses && places == use_counts)))
 }
 
 // Whether a table, the row of counts and five other rows, given by their lengths, have the sizes that the classes of all cuts need.
@@ -44,15 +33,15 @@ pub(crate) fn sizes_fit(
 ) -> bool
     ensures { λ r. ⌜ r ≡ sizesFit n values cuts (classes ∷ firsts ∷ tried ∷ uses ∷ «use_counts» ∷ []) ⌝ }
 {
-    if numbers::MOST_VARIABLES < n {
-        return false;
-    }
-    if values != numbers::arithmetic::power(n) {
-        return false;
-    }
-    if cuts != n + 1 {
-        return false;
-    }
-    let places = numbers::arithmetic::power(n + 1) - 1;
-    rows_have(places, classes, firsts, tried, uses, use_counts)
+    n <= numbers::MOST_VARIABLES
+        && (values == numbers::arithmetic::power(n)
+            && (cuts == n + 1
+                && rows_have(
+                    numbers::arithmetic::power(n + 1) - 1,
+                    classes,
+                    firsts,
+                    tried,
+                    uses,
+                    use_counts,
+                )))
 }

@@ -5,11 +5,11 @@ use mathlib.Core.Bool.{true, false, _&&_}
 use mathlib.Core.List.{List, [], _∷_, map}
 use native.Mathlib.Numerals.{add-one}
 use native.Mathlib.Omega.{arith}
-use lib.ListN.{length, getD, take, drop, set, replicate, length-append, length-map, List·getD-eq-default}
+use lib.ListN.{length, getD, take, drop, set, replicate, length-append, length-replicate, length-map, List·getD-eq-default}
 use lib.Seq.{drop-cons, take-suc, length-take-le, take-all, take-at}
-use lib.Dec.{ltb}
+use lib.Dec.{ltb, leb}
 use lib.IntN.{ℤ, pos}
-use borrow.Author.Tests.{ltb-true, ltb-false}
+use borrow.Author.Tests.{ltb-true, ltb-false, leb-true, leb-false}
 use Rattle.numbers.specs.Lists.{padded, overwritten}
 use Rattle.numbers.specs.Ranges.{eqZ}
 use Rattle.numbers.specs.Laws.Bools.{yes-or-no}
@@ -25,19 +25,18 @@ use Rattle.cases.specs.Rows.{byteOf, frontHolds}
 
 module _ (lent : ℤ) (row front : List ℤ) where
   -- No row holds more than it has places for.
-  pub too-many : length row < length front → frontHolds lent row front ≡ false
+  too-many : length row < length front → frontHolds lent row front ≡ false
   unfolding frontHolds padded
   too-many l = unlike-lengths row (padded (length row) lent front) (λ e. let a = length-append front (replicate (length row - length front) lent) in omega arith)
 
   -- From place i on, the rest decides.
   pub record HoldsTo (i : ℕ) : Type 0 where
     pub inside : i ≤ length row
-    pub room : length front ≤ length row
     pub decides : frontHolds lent row front ≡ same (drop i row) (drop i (padded (length row) lent front))
 
-  pub holds-start : length front ≤ length row → HoldsTo 0
+  pub holds-start : HoldsTo 0
   unfolding frontHolds
-  holds-start l = record { inside = omega arith; room = l; decides = refl }
+  holds-start = record { inside = omega arith; decides = refl }
 
   -- What should stand at a place.
   wanted : (i : ℕ) → getD (padded (length row) lent front) i lent ≡ getD front i lent
@@ -46,20 +45,27 @@ module _ (lent : ℤ) (row front : List ℤ) where
       (λ e. padded-entry lent (length row) front i (ltb-true i (length front) e))
       (λ e. let past = ltb-false i (length front) e in padded-free lent (length row) front i past ∙ sym (List·getD-eq-default front lent past))
 
+  -- Something should stand at each place.
+  wanted-long : length row ≤ length (padded (length row) lent front)
+  unfolding padded
+  wanted-long =
+      let a = length-append front (replicate (length row - length front) lent) in
+      let b = length-replicate (length row - length front) lent in
+      omega arith
+
   module _ {i : ℕ} (h : HoldsTo i) where
     module _ (l : i < length row) where
       one-step : frontHolds lent row front ≡ (eqZ (getD row i lent) (getD front i lent) && same (drop (suc i) row) (drop (suc i) (padded (length row) lent front)))
       unfolding same
       one-step =
           h .decides
-          ∙ ap₂ same (drop-cons row i lent l) (drop-cons (padded (length row) lent front) i lent (let e = length-padded lent (length row) front (h .room) in omega arith))
+          ∙ ap₂ same (drop-cons row i lent l) (drop-cons (padded (length row) lent front) i lent (let w = wanted-long in omega arith))
           ∙ ap (λ z. eqZ (getD row i lent) z && same (drop (suc i) row) (drop (suc i) (padded (length row) lent front))) (wanted i)
 
       -- The right number here.
       pub holds-on : eqZ (getD row i lent) (getD front i lent) ≡ true → HoldsTo (i + 1)
       holds-on e = record {
         inside = omega arith;
-        room = h .room;
         decides =
             one-step
             ∙ ap (λ b. b && same (drop (suc i) row) (drop (suc i) (padded (length row) lent front))) e
@@ -70,11 +76,15 @@ module _ (lent : ℤ) (row front : List ℤ) where
       pub holds-not : eqZ (getD row i lent) (getD front i lent) ≡ false → frontHolds lent row front ≡ false
       holds-not e = one-step ∙ ap (λ b. b && same (drop (suc i) row) (drop (suc i) (padded (length row) lent front))) e
 
-    -- Nothing is left to compare.
-    pub holds-all : length row ≤ i → frontHolds lent row front ≡ true
+    -- Nothing is left to compare but the lengths.
+    pub holds-all : length row ≤ i → leb (length front) i ≡ frontHolds lent row front
     holds-all l =
         let w = h .inside in
-        h .decides ∙ all-equal row (padded (length row) lent front) i (omega arith) (sym (length-padded lent (length row) front (h .room)))
+        yes-or-no (leb (length front) i)
+        (λ e.
+        let room = leb-true (length front) i e in
+        e ∙ sym (h .decides ∙ all-equal row (padded (length row) lent front) i (omega arith) (sym (length-padded lent (length row) front (omega arith)))))
+        (λ e. let more = leb-false (length front) i e in e ∙ sym (too-many (omega arith)))
 
 -- ---- one number
 

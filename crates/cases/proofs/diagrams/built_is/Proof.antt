@@ -4,6 +4,7 @@ use lib.Dec.{eqb}
 use lib.ListN.{getD}
 use lib.IntN.{pos}
 use mir.Facts.{toZ-ofZ}
+use borrow.Author.Tests.{ne-eqb}
 use borrow.Author.Needs.{needs}
 use Rattle.numbers.specs.Ranges.{eqZ}
 use Rattle.diagram.specs.Build.{built}
@@ -19,13 +20,14 @@ size-at-requires c κs = search needs
 enum-known-answer : tie.Need-enum-known-answer
 enum-known-answer c = search needs
 
-returns : tie.Need-returns
+returns-3 : tie.Need-returns-3
 unfolding builtIs answerIs built
-returns c =
+returns-3 c =
     let s = c .before .before .before .before .before in
-    sym
+    ne-eqb _ _ (c .if1 .left)
+    ∙ sym
     (ap (λ a. builtIs (s .args .numbers .now) (built a)) (c .before .before .answer .given .1)
-    ∙ failed _ (not-size 0 (c .before .before .before .before .size-at .ensures .0) (c .if1 .taken)))
+    ∙ failed _ (not-size 0 (c .before .before .before .before .size-at .ensures .0) (c .if1 .left)))
 
 size-at-requires-2 : tie.Need-size-at-requires-2
 size-at-requires-2 c κs = search needs
@@ -35,10 +37,11 @@ unfolding builtIs answerIs built
 returns-2 c =
     let s = c .before .before .before .before .before .before .before in
     let r = c .before .before in
-    sym
+    ne-eqb _ _ (c .if2 .left)
+    ∙ sym
     (ap (λ a. builtIs (s .args .numbers .now) (built a)) (r .before .before .answer .given .1)
-    ∙ passed _ (is-size 0 (r .before .before .before .before .size-at .ensures .0) (r .if1 .left))
-    ∙ failed _ (not-size _ (c .before .size-at2 .ensures .0) (c .if2 .taken)))
+    ∙ passed _ (is-size 0 (r .before .before .before .before .size-at .ensures .0) (r .if1 .taken))
+    ∙ failed _ (not-size _ (c .before .size-at2 .ensures .0) (c .if2 .left)))
 
 is-at-requires : tie.Need-is-at-requires
 is-at-requires c κs = search needs
@@ -49,15 +52,15 @@ enum-known-answer-2 c = search needs
 cast-result : tie.Need-cast-result
 cast-result c = search needs
 
-returns-3 : tie.Need-returns-3
+returns : tie.Need-returns
 unfolding builtIs answerIs built
-returns-3 c =
+returns c =
     let s = c .before .before .before .before .before .before .before .before in
     let r = c .before .before .before in
     sym
     (ap (λ a. builtIs (s .args .numbers .now) (built a)) (r .before .before .answer .given .1)
-    ∙ passed _ (is-size 0 (r .before .before .before .before .size-at .ensures .0) (r .if1 .left))
-    ∙ passed _ (is-size _ (c .before .before .size-at2 .ensures .0) (c .before .if2 .left))
+    ∙ passed _ (is-size 0 (r .before .before .before .before .size-at .ensures .0) (r .if1 .taken))
+    ∙ passed _ (is-size _ (c .before .before .size-at2 .ensures .0) (c .before .if2 .taken))
     ∙ sym (c .is-at .ensures ∙ ap (λ z. eqZ z (getD (s .args .numbers .now) 5 (pos 0))) (toZ-ofZ (record { sfits = r .before .known-told .given .1 .0 .1 }))))
 
 returns-4 : tie.Need-returns-4
@@ -74,11 +77,11 @@ built-is-spec =
     (tie.spec
     size-at-requires
     enum-known-answer
-    returns
     size-at-requires-2
-    returns-2
     is-at-requires
     enum-known-answer-2
     cast-result
+    returns
+    returns-2
     returns-3
     returns-4)

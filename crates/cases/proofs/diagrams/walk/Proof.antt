@@ -4,6 +4,7 @@ use lib.Dec.{eqb}
 use lib.ListN.{getD}
 use lib.IntN.{pos}
 use mir.Facts.{toZ-ofZ}
+use borrow.Author.Tests.{ne-eqb}
 use borrow.Author.Needs.{needs}
 use Rattle.numbers.specs.Ranges.{eqZ}
 use Rattle.diagram.specs.Walk.{walk, walked}
@@ -54,11 +55,11 @@ module _ (c : tie.After-walk) where
 enum-known-value : tie.Need-enum-known-value
 enum-known-value c = search needs
 
-returns : tie.Need-returns
+returns-2 : tie.Need-returns-2
 unfolding answerIs walked
-returns c =
+returns-2 c =
     let w = c .before .before .before .before in
-    sym (judged w _ (c .before .before .value .given .1) ∙ failed _ (not-size 0 (refusal w .size-at3 .ensures .0) (c .if1 .taken)))
+    ne-eqb _ _ (c .if1 .left) ∙ sym (judged w _ (c .before .before .value .given .1) ∙ failed _ (not-size 0 (refusal w .size-at3 .ensures .0) (c .if1 .left)))
 
 is-at-requires : tie.Need-is-at-requires
 is-at-requires c κs = search needs
@@ -69,14 +70,14 @@ enum-known-number c = search needs
 cast-result : tie.Need-cast-result
 cast-result c = search needs
 
-returns-2 : tie.Need-returns-2
+returns : tie.Need-returns
 unfolding answerIs walked
-returns-2 c =
+returns c =
     let r = c .before in
     let w = r .before .before .before .before in
     sym
     (judged w _ (r .before .before .value .given .1)
-    ∙ passed _ (is-size 0 (refusal w .size-at3 .ensures .0) (r .if1 .left))
+    ∙ passed _ (is-size 0 (refusal w .size-at3 .ensures .0) (r .if1 .taken))
     ∙ sym (c .is-at .ensures ∙ ap (λ z. eqZ z (getD (start w .args .numbers .now) 5 (pos 0))) (toZ-ofZ (record { sfits = r .before .known-told .given .0 .1 }))))
 
 returns-3 : tie.Need-returns-3
@@ -95,9 +96,9 @@ walk-spec =
     size-at-requires-3
     walk-requires
     enum-known-value
-    returns
     is-at-requires
     enum-known-number
     cast-result
+    returns
     returns-2
     returns-3)

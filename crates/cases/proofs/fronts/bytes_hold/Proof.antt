@@ -13,7 +13,7 @@ use borrow.Author.Needs.{needs}
 use Rattle.numbers.specs.Ranges.{eqZ}
 use Rattle.numbers.specs.Laws.Lists.{getD-map}
 use Rattle.cases.specs.Rows.{byteLent}
-use Rattle.cases.specs.Laws.Rows.{HoldsTo, too-many, holds-start, holds-on, holds-not, holds-all}
+use Rattle.cases.specs.Laws.Rows.{HoldsTo, holds-start, holds-on, holds-not, holds-all}
 use Rattle.cases.proofs.fronts.bytes_hold.Statement.{statement}
 use Rattle.cases.proofs.fronts.bytes_hold.Tie as tie
 
@@ -23,18 +23,13 @@ Inv-loop row front i₀ i = HoldsTo (pos byteLent) (map pos row) front i
 abbrev μ-loop : tie.MeasureT-loop
 μ-loop row front i₀ i = length row - i
 
-returns : tie.Need-returns Inv-loop μ-loop
-returns c =
-    let a = c .before .before .args in
-    sym (too-many (pos byteLent) (map pos (a .row .now)) (a .front .now) (rw length-map (c .if1 .taken)))
-
 loop-holds : tie.Need-loop-holds Inv-loop μ-loop
 loop-holds c =
-    let a = c .before .before .args in
-    holds-start (pos byteLent) (map pos (a .row .now)) (a .front .now) (rw length-map (c .if1 .left))
+    let a = c .before .args in
+    holds-start (pos byteLent) (map pos (a .row .now)) (a .front .now)
 
 -- A byte is a number of 32 bits.
-byte-fits : (c : tie.After-shared-slice-known2 Inv-loop μ-loop) → SFits w32 (pos (getD (c .before .before .before .before .before .args .row .now) (c .before .before .loop .i) 0))
+byte-fits : (c : tie.After-shared-slice-known2 Inv-loop μ-loop) → SFits w32 (pos (getD (c .before .before .before .before .args .row .now) (c .before .before .loop .i) 0))
 byte-fits c = record { sfits = (let b = c .shared-slice-known2 .given (c .before .before .loop .i) in omega arith) }
 
 cast-is-at : tie.Need-cast-is-at Inv-loop μ-loop
@@ -52,14 +47,14 @@ module _ (c : tie.After-is-at Inv-loop μ-loop) where
   turn = c .before .before .before
 
   abbrev bytes : List ℤ
-  bytes = map pos (turn .before .before .before .args .row .now)
+  bytes = map pos (turn .before .before .args .row .now)
 
   inside : turn .loop .i < length bytes
   inside = rw length-map (c .before .before .loop-test .taken)
 
-  tested : c .is-at .result ≡ eqZ (getD bytes (turn .loop .i) (pos byteLent)) (getD (turn .before .before .before .args .front .now) (turn .loop .i) (pos byteLent))
+  tested : c .is-at .result ≡ eqZ (getD bytes (turn .loop .i) (pos byteLent)) (getD (turn .before .before .args .front .now) (turn .loop .i) (pos byteLent))
   tested =
-      let a = turn .before .before .before .args in
+      let a = turn .before .before .args in
       c .is-at .ensures
       ∙ ap (λ z. eqZ z (getD (a .front .now) (turn .loop .i) (pos byteLent)))
       (toZ-ofZ (byte-fits (c .before)) ∙ sym (getD-map pos (a .row .now) (turn .loop .i) 0 (pos byteLent) (c .before .before .loop-test .taken)))
@@ -67,11 +62,11 @@ module _ (c : tie.After-is-at Inv-loop μ-loop) where
 is-at-requires : tie.Need-is-at-requires Inv-loop μ-loop
 is-at-requires c κs = search needs
 
-returns-2 : tie.Need-returns-2 Inv-loop μ-loop
-returns-2 c =
+returns : tie.Need-returns Inv-loop μ-loop
+returns c =
     let d = c .before in
-    let a = turn d .before .before .before .args in
-    sym (holds-not (pos byteLent) (map pos (a .row .now)) (a .front .now) (turn d .loop .inv) (inside d) (sym (tested d) ∙ not-true _ (c .if2 .taken)))
+    let a = turn d .before .before .args in
+    sym (holds-not (pos byteLent) (map pos (a .row .now)) (a .front .now) (turn d .loop .inv) (inside d) (sym (tested d) ∙ not-true _ (c .if1 .taken)))
 
 add-i : tie.Need-add-i Inv-loop μ-loop
 add-i c = search needs
@@ -82,13 +77,13 @@ loop-less c = search needs
 loop-again : tie.Need-loop-again Inv-loop μ-loop
 loop-again c =
     let d = c .before in
-    let a = turn d .before .before .before .args in
-    holds-on (pos byteLent) (map pos (a .row .now)) (a .front .now) (turn d .loop .inv) (inside d) (sym (tested d) ∙ not-false _ (c .if2 .left))
+    let a = turn d .before .before .args in
+    holds-on (pos byteLent) (map pos (a .row .now)) (a .front .now) (turn d .loop .inv) (inside d) (sym (tested d) ∙ not-false _ (c .if1 .left))
 
-returns-3 : tie.Need-returns-3 Inv-loop μ-loop
-returns-3 c =
-    let a = c .before .before .before .before .args in
-    sym (holds-all (pos byteLent) (map pos (a .row .now)) (a .front .now) (c .before .loop .inv) (rw length-map (c .loop-test .left)))
+returns-2 : tie.Need-returns-2 Inv-loop μ-loop
+returns-2 c =
+    let a = c .before .before .before .args in
+    holds-all (pos byteLent) (map pos (a .row .now)) (a .front .now) (c .before .loop .inv) (rw length-map (c .loop-test .left))
 
 pub bytes-hold-spec : {M : Type 1} → statement M
 bytes-hold-spec =
@@ -96,14 +91,13 @@ bytes-hold-spec =
     (tie.spec
     Inv-loop
     μ-loop
-    returns
     loop-holds
     cast-is-at
     shared-slice-read-is-at
     cast-is-at-2
     is-at-requires
-    returns-2
+    returns
     add-i
     loop-less
     loop-again
-    returns-3)
+    returns-2)

@@ -8,7 +8,7 @@ use borrow.Author.Tests.{not-true, not-false}
 use borrow.Author.Needs.{needs}
 use Rattle.numbers.specs.Ranges.{eqZ}
 use Rattle.cases.specs.Rows.{numberLent}
-use Rattle.cases.specs.Laws.Rows.{HoldsTo, too-many, holds-start, holds-on, holds-not, holds-all, inside-row}
+use Rattle.cases.specs.Laws.Rows.{HoldsTo, holds-start, holds-on, holds-not, holds-all, inside-row}
 use Rattle.cases.proofs.fronts.numbers_hold.Statement.{statement}
 use Rattle.cases.proofs.fronts.numbers_hold.Tie as tie
 
@@ -18,22 +18,19 @@ Inv-loop row front i₀ i = HoldsTo numberLent row front i
 abbrev μ-loop : tie.MeasureT-loop
 μ-loop row front i₀ i = length row - i
 
-returns : tie.Need-returns Inv-loop μ-loop
-returns c = let a = c .before .args in sym (too-many numberLent (a .row .now) (a .front .now) (c .if1 .taken))
-
 loop-holds : tie.Need-loop-holds Inv-loop μ-loop
 loop-holds c =
-    let a = c .before .args in
-    holds-start numberLent (a .row .now) (a .front .now) (c .if1 .left)
+    let a = c .args in
+    holds-start numberLent (a .row .now) (a .front .now)
 
 -- The number at the place is tested.
 module _ (c : tie.After-is-at Inv-loop μ-loop) where
   abbrev turn : tie.At-loop Inv-loop μ-loop
   turn = c .before .before .before
 
-  tested : c .is-at .result ≡ eqZ (getD (turn .before .before .args .row .now) (turn .loop .i) numberLent) (getD (turn .before .before .args .front .now) (turn .loop .i) numberLent)
+  tested : c .is-at .result ≡ eqZ (getD (turn .before .args .row .now) (turn .loop .i) numberLent) (getD (turn .before .args .front .now) (turn .loop .i) numberLent)
   tested =
-      let a = turn .before .before .args in
+      let a = turn .before .args in
       c .is-at .ensures
       ∙ ap (λ z. eqZ z (getD (a .front .now) (turn .loop .i) numberLent))
       (toZ-ofZ (record { sfits = c .before .is-at-arg .given }) ∙ inside-row (a .row .now) (turn .loop .i) (pos 0) numberLent (c .before .before .loop-test .taken))
@@ -47,11 +44,11 @@ shared-slice-copy-out-is-at c = search needs
 is-at-requires : tie.Need-is-at-requires Inv-loop μ-loop
 is-at-requires c κs = search needs
 
-returns-2 : tie.Need-returns-2 Inv-loop μ-loop
-returns-2 c =
+returns : tie.Need-returns Inv-loop μ-loop
+returns c =
     let d = c .before in
-    let a = turn d .before .before .args in
-    sym (holds-not numberLent (a .row .now) (a .front .now) (turn d .loop .inv) (d .before .before .loop-test .taken) (sym (tested d) ∙ not-true _ (c .if2 .taken)))
+    let a = turn d .before .args in
+    sym (holds-not numberLent (a .row .now) (a .front .now) (turn d .loop .inv) (d .before .before .loop-test .taken) (sym (tested d) ∙ not-true _ (c .if1 .taken)))
 
 add-i : tie.Need-add-i Inv-loop μ-loop
 add-i c = search needs
@@ -62,13 +59,13 @@ loop-less c = search needs
 loop-again : tie.Need-loop-again Inv-loop μ-loop
 loop-again c =
     let d = c .before in
-    let a = turn d .before .before .args in
-    holds-on numberLent (a .row .now) (a .front .now) (turn d .loop .inv) (d .before .before .loop-test .taken) (sym (tested d) ∙ not-false _ (c .if2 .left))
+    let a = turn d .before .args in
+    holds-on numberLent (a .row .now) (a .front .now) (turn d .loop .inv) (d .before .before .loop-test .taken) (sym (tested d) ∙ not-false _ (c .if1 .left))
 
-returns-3 : tie.Need-returns-3 Inv-loop μ-loop
-returns-3 c =
-    let a = c .before .before .before .args in
-    sym (holds-all numberLent (a .row .now) (a .front .now) (c .before .loop .inv) (c .loop-test .left))
+returns-2 : tie.Need-returns-2 Inv-loop μ-loop
+returns-2 c =
+    let a = c .before .before .args in
+    holds-all numberLent (a .row .now) (a .front .now) (c .before .loop .inv) (c .loop-test .left)
 
 pub numbers-hold-spec : {M : Type 1} → statement M
 numbers-hold-spec =
@@ -76,13 +73,12 @@ numbers-hold-spec =
     (tie.spec
     Inv-loop
     μ-loop
-    returns
     loop-holds
     mul-is-at
     shared-slice-copy-out-is-at
     is-at-requires
-    returns-2
+    returns
     add-i
     loop-less
     loop-again
-    returns-3)
+    returns-2)

@@ -3,11 +3,9 @@ use Prim.Native.Nat.{_≤_}
 use mathlib.Core.Path.{_≡_, sym, _∙_, ap}
 use mathlib.Core.Bool.{_&&_}
 use mathlib.Core.List.{List, map}
-use native.Mathlib.Omega.{arith}
 use lib.ListN.{length, take, replicate, length-map}
 use lib.Seq.{length-take-le, take-at}
 use lib.IntN.{ℤ}
-use borrow.Author.Tests.{not-true, not-false}
 use borrow.Author.Needs.{needs}
 use Rattle.image.specs.Run.{expanded}
 use Rattle.cases.specs.Rows.{byteOf, numberLent, frontHolds}
@@ -32,7 +30,7 @@ size-at-requires c κs = search needs
 
 returns-2 : tie.Need-returns-2
 returns-2 c =
-    let l = c .before .before .before .before .before in
+    let l = c .before .before in
     let a = l .before .args in
     sym (expand-too-many (a .numbers .now) (a .image .now) (a .front .now) (l .if1 .left) (c .before .size-at .ensures .0) (c .if2 .taken))
 
@@ -50,8 +48,8 @@ module _ (c : tie.After-bytes3) where
   abbrev image : List ℤ
   image = start .before .args .image .now
 
-  bytes-are : take (length image) (c .before .before .before .before .put-bytes .last .0) ≡ map byteOf image
-  bytes-are = bytes-front _ image (c .before .before .before .before .put-bytes .ensures)
+  bytes-are : take (length image) (c .before .before .put-bytes .last .0) ≡ map byteOf image
+  bytes-are = bytes-front _ image (c .before .before .put-bytes .ensures)
 
 slice-aggregate-expand : tie.Need-slice-aggregate-expand
 slice-aggregate-expand c = sym (ap length (bytes-are c) ∙ length-map (image c) byteOf)
@@ -60,7 +58,7 @@ array-borrow-prefix-lent : tie.Need-array-borrow-prefix-lent
 array-borrow-prefix-lent c = search needs
 
 slice-aggregate-expand-2 : tie.Need-slice-aggregate-expand-2
-slice-aggregate-expand-2 c = sym (length-take-le _ _ (let few : c .before .before .before .size-at .result ≤ 4096 = omega arith in few))
+slice-aggregate-expand-2 c = sym (length-take-le _ _ (let few : c .before .before .before .before .before .before .size-at .result ≤ 4096 = c .before .before .before .before .before .if2 .left in few))
 
 expand-requires : tie.Need-expand-requires
 expand-requires c κs = search needs
@@ -71,7 +69,7 @@ module _ (c : tie.After-expand) where
   image-lent = c .before .before
 
   abbrev sized : tie.After-size-at
-  sized = image-lent .before .before
+  sized = image-lent .before .before .before .before .before
 
   abbrev front : List ℤ
   front = start image-lent .before .args .front .now
@@ -80,7 +78,7 @@ module _ (c : tie.After-expand) where
   left = c .expand .last .1 .0
 
   few : sized .size-at .result ≤ 4096
-  few = omega arith
+  few = image-lent .before .before .before .before .if2 .left
 
   kept : length left ≡ sized .size-at .result
   kept = c .expand .kept .1 .0 ∙ length-take-le _ _ few
@@ -93,8 +91,8 @@ module _ (c : tie.After-expand) where
 expanded-is-requires : tie.Need-expanded-is-requires
 expanded-is-requires c κs = search needs
 
-returns-3 : tie.Need-returns-3
-returns-3 c = sym (judged (c .before .before .before) ∙ failed _ (sym (c .before .expanded-is .ensures) ∙ not-true _ (c .if3 .taken)))
+returns-4 : tie.Need-returns-4
+returns-4 c = c .if3 .left ∙ sym (judged (c .before .before .before) ∙ failed _ (sym (c .before .expanded-is .ensures) ∙ c .if3 .left))
 
 array-share-prefix-lent : tie.Need-array-share-prefix-lent
 array-share-prefix-lent c = front-within (left (c .before .before .before)) _ (kept (c .before .before .before))
@@ -105,13 +103,13 @@ slice-aggregate-numbers-hold c = front-length (left (c .before .before .before .
 numbers-hold-requires : tie.Need-numbers-hold-requires
 numbers-hold-requires c κs = search needs
 
-returns-4 : tie.Need-returns-4
-returns-4 c =
+returns-3 : tie.Need-returns-3
+returns-3 c =
     let p = c .before .before in
     let b = p .before .before .before in
     sym
     (judged b
-    ∙ passed _ (sym (p .before .expanded-is .ensures) ∙ not-false _ (p .if3 .left))
+    ∙ passed _ (sym (p .before .expanded-is .ensures) ∙ p .if3 .taken)
     ∙ sym (c .numbers-hold .ensures ∙ ap (λ row. frontHolds numberLent row (front b)) (take-at (left b) _ (sized b .size-at .result) (kept b))))
 
 pub expand-spec : {M : Type 1} → statement M
@@ -119,18 +117,18 @@ expand-spec =
     tie.close
     (tie.spec
     returns
-    slice-aggregate-put-bytes
-    put-bytes-requires
     size-at-requires
     returns-2
+    slice-aggregate-put-bytes
+    put-bytes-requires
     array-share-prefix-bytes
     slice-aggregate-expand
     array-borrow-prefix-lent
     slice-aggregate-expand-2
     expand-requires
     expanded-is-requires
-    returns-3
     array-share-prefix-lent
     slice-aggregate-numbers-hold
     numbers-hold-requires
+    returns-3
     returns-4)

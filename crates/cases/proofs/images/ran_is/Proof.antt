@@ -29,13 +29,13 @@ module _ (k : tie.After-known-told) where
   unfolding ranIs answerIs ran
   judged = ap (λ a. ranIs (start .args .refusal) (start .args .value) (start .args .words) (ran a)) (k .before .answer .given .1)
 
-returns : tie.Need-returns
-returns c = let k = c .before in sym (judged k ∙ failed _ (ne-eqb (start k .args .refusal) 0 (c .if1 .taken)))
+returns-3 : tie.Need-returns-3
+returns-3 c = let k = c .before in ne-eqb _ _ (c .if1 .left) ∙ sym (judged k ∙ failed _ (ne-eqb (start k .args .refusal) 0 (c .if1 .left)))
 
 returns-2 : tie.Need-returns-2
 returns-2 c =
     let k = c .before .before in
-    sym (judged k ∙ passed _ (eq-eqb (start k .args .refusal) 0 (c .before .if1 .left)) ∙ failed _ (ne-eqb (start k .args .words) (k .before .answer .given .0 .1 .0) (c .if2 .taken)))
+    ne-eqb _ _ (c .if2 .left) ∙ sym (judged k ∙ passed _ (eq-eqb (start k .args .refusal) 0 (c .before .if1 .taken)) ∙ failed _ (ne-eqb (start k .args .words) (k .before .answer .given .0 .1 .0) (c .if2 .left)))
 
 enum-known-answer-2 : tie.Need-enum-known-answer-2
 enum-known-answer-2 c = search needs
@@ -43,14 +43,14 @@ enum-known-answer-2 c = search needs
 cast-result : tie.Need-cast-result
 cast-result c = search needs
 
-returns-3 : tie.Need-returns-3
-returns-3 c =
+returns : tie.Need-returns
+returns c =
     let k = c .before .before in
     bits-equal w32 _ _ (record { sfits = k .known-told .given .0 .1 }) (start k .fits .value)
     ∙ sym
     (judged k
-    ∙ passed _ (eq-eqb (start k .args .refusal) 0 (c .before .if1 .left))
-    ∙ passed _ (eq-eqb (start k .args .words) (k .before .answer .given .0 .1 .0) (c .if2 .left)))
+    ∙ passed _ (eq-eqb (start k .args .refusal) 0 (c .before .if1 .taken))
+    ∙ passed _ (eq-eqb (start k .args .words) (k .before .answer .given .0 .1 .0) (c .if2 .taken)))
 
 returns-4 : tie.Need-returns-4
 unfolding ranIs answerIs ran
@@ -63,9 +63,9 @@ ran-is-spec =
     tie.close
     (tie.spec
     enum-known-answer
-    returns
-    returns-2
     enum-known-answer-2
     cast-result
+    returns
+    returns-2
     returns-3
     returns-4)

@@ -3,7 +3,6 @@ use mathlib.Core.Path.{_≡_, sym, _∙_}
 use mathlib.Core.Bool.{_&&_}
 use mathlib.Core.List.{List}
 use lib.IntN.{ℤ}
-use borrow.Author.Tests.{not-true, not-false}
 use borrow.Author.Needs.{needs}
 use Rattle.reach.specs.Reach.{reachJudgement}
 use Rattle.cases.specs.Rows.{sizesAre}
@@ -36,8 +35,8 @@ module _ (c : tie.After-reach) where
   judged : reachPasses numbers (start .args .table .now) (start .args .cuts .now) ≡ (verdictIs numbers (reachJudgement (c .reach .result .verdict)) && sizesAre (c .reach .result .cuts) (start .args .cuts .now))
   judged = reach-judged numbers (start .args .table .now) (c .before .before .size-at .ensures .0) (c .before .size-at2 .ensures .0) (start .args .cuts .now) (c .reach .result) (c .reach .ensures)
 
-returns : tie.Need-returns
-returns c = sym (judged (c .before .before) ∙ failed _ (sym (c .before .verdict-is .ensures) ∙ not-true _ (c .if1 .taken)))
+returns-2 : tie.Need-returns-2
+returns-2 c = c .if1 .left ∙ sym (judged (c .before .before .before) ∙ failed _ (sym (c .before .verdict-is .ensures) ∙ c .if1 .left))
 
 slice-aggregate-sizes-are : tie.Need-slice-aggregate-sizes-are
 slice-aggregate-sizes-are c = search needs
@@ -45,12 +44,12 @@ slice-aggregate-sizes-are c = search needs
 sizes-are-requires : tie.Need-sizes-are-requires
 sizes-are-requires c κs = search needs
 
-returns-2 : tie.Need-returns-2
-returns-2 c =
-    let v = c .before .before .before in
+returns : tie.Need-returns
+returns c =
+    let v = c .before .before in
     sym
-    (judged (v .before .before)
-    ∙ passed _ (sym (v .before .verdict-is .ensures) ∙ not-false _ (v .if1 .left))
+    (judged (v .before .before .before)
+    ∙ passed _ (sym (v .before .verdict-is .ensures) ∙ v .if1 .taken)
     ∙ sym (c .sizes-are .ensures))
 
 pub reach-spec : {M : Type 1} → statement M
@@ -61,7 +60,7 @@ reach-spec =
     size-at-requires-2
     reach-requires
     verdict-is-requires
-    returns
     slice-aggregate-sizes-are
     sizes-are-requires
+    returns
     returns-2)

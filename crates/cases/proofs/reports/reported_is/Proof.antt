@@ -8,7 +8,7 @@ use lib.IntN.{ℤ, pos}
 use mir.Syntax.{w32, w64}
 use mir.Val.{ofZ, toZ}
 use mir.Facts.{toZ-ofZ}
-use borrow.Author.Tests.{not-true, not-false}
+use borrow.Author.Tests.{ne-eqb}
 use borrow.Author.Needs.{needs, sfits-of}
 use Rattle.numbers.specs.Ranges.{eqZ}
 use Rattle.report.specs.Report.{Figures, reported}
@@ -61,23 +61,23 @@ module _ (k : tie.After-known-told) where
   greatest-back : toZ w32 (ofZ w32 (figures .greatest)) ≡ figures .greatest
   greatest-back = toZ-ofZ (record { sfits = k .known-told .given .1 .1 .0 .1 })
 
-returns : tie.Need-returns
-returns c = let k = c .before in sym (judged k ∙ failed _ (not-size 0 (refusal k .size-at .ensures .0) (c .if1 .taken)))
+returns-5 : tie.Need-returns-5
+returns-5 c = let k = c .before in ne-eqb _ _ (c .if1 .left) ∙ sym (judged k ∙ failed _ (not-size 0 (refusal k .size-at .ensures .0) (c .if1 .left)))
 
 -- No refusal was expected.
-module _ (c : tie.Else1) where
+module _ (c : tie.Then1) where
   abbrev known : tie.After-known-told
   known = c .before
 
   no-refusal : passes known ≡ figuresAre (numbers known) (expected known) (figures known)
-  no-refusal = judged known ∙ passed _ (is-size 0 (refusal known .size-at .ensures .0) (c .if1 .left))
+  no-refusal = judged known ∙ passed _ (is-size 0 (refusal known .size-at .ensures .0) (c .if1 .taken))
 
 size-at-requires-2 : tie.Need-size-at-requires-2
 size-at-requires-2 c κs = search needs
 
-returns-2 : tie.Need-returns-2
+returns-4 : tie.Need-returns-4
 unfolding figuresAre
-returns-2 c = sym (no-refusal (c .before .before) ∙ failed _ (not-size _ (c .before .size-at2 .ensures .0) (c .if2 .taken)))
+returns-4 c = ne-eqb _ _ (c .if2 .left) ∙ sym (no-refusal (c .before .before) ∙ failed _ (not-size _ (c .before .size-at2 .ensures .0) (c .if2 .left)))
 
 is-at-requires : tie.Need-is-at-requires
 is-at-requires c κs = search needs
@@ -94,11 +94,11 @@ module _ (c : tie.After-is-at) where
   unfolding figuresAre
   same-count =
       no-refusal (c .before .before .before)
-      ∙ passed _ (is-size _ (c .before .before .size-at2 .ensures .0) (c .before .if2 .left))
+      ∙ passed _ (is-size _ (c .before .before .size-at2 .ensures .0) (c .before .if2 .taken))
       ∙ ap (λ b. b && (eqZ (figures counted .greatest) (getD (numbers counted) 8 (pos 0)) && eqZ (figures counted .sum) (sumOf (expected counted)))) least-tested
 
 returns-3 : tie.Need-returns-3
-returns-3 c = sym (same-count (c .before) ∙ failed _ (not-true (c .before .is-at .result) (c .if3 .taken)))
+returns-3 c = c .if3 .left ∙ sym (same-count (c .before) ∙ failed _ (c .if3 .left))
 
 is-at-requires-2 : tie.Need-is-at-requires-2
 is-at-requires-2 c κs = search needs
@@ -114,11 +114,11 @@ module _ (c : tie.After-is-at2) where
   same-least : passes (counted lowest) ≡ (c .is-at2 .result && eqZ (figures (counted lowest) .sum) (sumOf (expected (counted lowest))))
   same-least =
       same-count lowest
-      ∙ passed _ (not-false (lowest .is-at .result) (c .before .if3 .left))
+      ∙ passed _ (c .before .if3 .taken)
       ∙ ap (λ b. b && eqZ (figures (counted lowest) .sum) (sumOf (expected (counted lowest)))) greatest-tested
 
-returns-4 : tie.Need-returns-4
-returns-4 c = sym (same-least (c .before) ∙ failed _ (not-true (c .before .is-at2 .result) (c .if4 .taken)))
+returns-2 : tie.Need-returns-2
+returns-2 c = c .if4 .left ∙ sym (same-least (c .before) ∙ failed _ (c .if4 .left))
 
 sum-of-requires : tie.Need-sum-of-requires
 sum-of-requires c κs = search needs
@@ -129,13 +129,13 @@ enum-known-answer-2 c = search needs
 cast-result : tie.Need-cast-result
 cast-result c = search needs
 
-returns-5 : tie.Need-returns-5
-returns-5 c =
+returns : tie.Need-returns
+returns c =
     let g = c .before .before in
     let k = counted (lowest g) in
     bits-equal w64 _ _ (record { sfits = k .known-told .given .1 .1 .1 .0 .1 }) (sfits-of (c .sum-of .ok))
     ∙ ap (eqZ (figures k .sum)) (c .sum-of .ensures)
-    ∙ sym (same-least g ∙ passed _ (not-false (g .is-at2 .result) (c .before .if4 .left)))
+    ∙ sym (same-least g ∙ passed _ (c .before .if4 .taken))
 
 returns-6 : tie.Need-returns-6
 unfolding reportedIs answerIs reported
@@ -151,15 +151,15 @@ reported-is-spec =
     (tie.spec
     size-at-requires
     enum-known-answer
-    returns
     size-at-requires-2
-    returns-2
     is-at-requires
-    returns-3
     is-at-requires-2
-    returns-4
     sum-of-requires
     enum-known-answer-2
     cast-result
+    returns
+    returns-2
+    returns-3
+    returns-4
     returns-5
     returns-6)

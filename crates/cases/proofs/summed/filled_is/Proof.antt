@@ -3,6 +3,7 @@ use mathlib.Core.Path.{_≡_, sym, _∙_, ap}
 use mathlib.Core.Logic.{⊎-elim}
 use mathlib.Core.Bool.{true}
 use lib.Dec.{eqb}
+use borrow.Author.Tests.{ne-eqb}
 use borrow.Author.Needs.{needs}
 use Rattle.sums.specs.Sums.{summed}
 use Rattle.cases.specs.Rows.{answerIs}
@@ -32,21 +33,21 @@ is-told c =
     (λ w. ap (λ r. answerIs refusal (λ b. true) (summed r)) (w .1 .given .1) ∙ refusal-told Unit refusal (w .1 .given .0 .0) ∙ ap (eqb refusal) (sym (w .3)))
     (c .match .came)
 
-returns : tie.Need-returns
-returns c =
+returns-2 : tie.Need-returns-2
+returns-2 c =
     let m = c .before in
     let a = m .before .before .args in
-    sym (other-told (a .numbers .now) (a .table .now) (a .front .now) (summed (a .answer)) (m .before .size-at .ensures .0) (is-told m) (c .if1 .taken))
+    ne-eqb _ _ (c .if1 .left) ∙ sym (other-told (a .numbers .now) (a .table .now) (a .front .now) (summed (a .answer)) (m .before .size-at .ensures .0) (is-told m) (c .if1 .left))
 
 numbers-hold-requires : tie.Need-numbers-hold-requires
 numbers-hold-requires c κs = search needs
 
-returns-2 : tie.Need-returns-2
-returns-2 c =
+returns : tie.Need-returns
+returns c =
     let m = c .before .before in
     let a = m .before .before .args in
     c .numbers-hold .ensures
-    ∙ sym (same-told (a .numbers .now) (a .table .now) (a .front .now) (summed (a .answer)) (m .before .size-at .ensures .0) (is-told m) (c .before .if1 .left))
+    ∙ sym (same-told (a .numbers .now) (a .table .now) (a .front .now) (summed (a .answer)) (m .before .size-at .ensures .0) (is-told m) (c .before .if1 .taken))
 
 pub filled-is-spec : {M : Type 1} → statement M
 filled-is-spec =
@@ -56,6 +57,6 @@ filled-is-spec =
     enum-told
     enum-known-answer
     cast-told
-    returns
     numbers-hold-requires
+    returns
     returns-2)

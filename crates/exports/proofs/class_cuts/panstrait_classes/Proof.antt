@@ -13,29 +13,34 @@ class-cuts-requires : tie.Need-class-cuts-requires
 class-cuts-requires c κs =
     let at = c .before .before .before .before .before .before in
     let a = at .before .before .before .before .before .before .before .before .args in
-    sizes-room (a .n) (a .table .now) (a .classes .now) (a .firsts .now) (a .counts .now) (a .tried .now) (a .uses .now) (a .use-counts .now) (sym (at .before .sizes-fit .ensures) ∙ at .if1 .taken)
+    sizes-room (a .n) (a .table .now) (a .classes .now) (a .firsts .now) (a .counts .now) (a .tried .now) (a .uses .now) (a .use-counts .now) (at .before .sizes-fit .ensures) (at .if1 .taken)
+
+-- The classing, after which every row has the length it had.
+module _ (c : tie.After-slice-known12) where
+  abbrev classed : tie.After-class-cuts
+  classed = c .before .before .before .before .before .before .before .before .before .before .before .before
 
 same-length : tie.Need-same-length
-same-length c = search needs
+same-length c = classed c .class-cuts .kept .1 .1 .0
 
 same-length-2 : tie.Need-same-length-2
-same-length-2 c = search needs
+same-length-2 c = classed c .class-cuts .kept .1 .1 .1 .0
 
 same-length-3 : tie.Need-same-length-3
-same-length-3 c = search needs
+same-length-3 c = classed c .class-cuts .kept .1 .1 .1 .1 .0
 
 same-length-4 : tie.Need-same-length-4
-same-length-4 c = search needs
+same-length-4 c = classed c .class-cuts .kept .1 .1 .1 .1 .1 .0
 
 same-length-5 : tie.Need-same-length-5
-same-length-5 c = search needs
+same-length-5 c = classed c .class-cuts .kept .1 .1 .1 .1 .1 .1 .0
 
 same-length-6 : tie.Need-same-length-6
-same-length-6 c = search needs
+same-length-6 c = classed c .class-cuts .kept .1 .1 .1 .1 .1 .1 .1 .0
 
 returns : tie.Need-returns
 returns c =
-    let at = c .before .before .before .before .before .before .before .before .before .before .before .before in
+    let at = classed c in
     let k = at .class-cuts in
     let test = at .before .before .before .before .before .before .before in
     record {

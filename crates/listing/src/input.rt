@@ -4,7 +4,7 @@ ghost use Prim.Native.Nat.{_+_, _*_, _≤_};
 ghost use lib.ListN.{length};
 ghost use Rattle.listing.specs.Inner.Values.{valuesOf};
 ghost use Rattle.listing.specs.Listing.{isListed};
-ghost use Rattle.listing.specs.Inner.Listed.{refusalOf};
+ghost use Rattle.listing.specs.Inner.Listed.{inputRefusal};
 
 // Whether a table of n variables is listed.
 pub(crate) fn is_listed(n: usize) -> bool
@@ -18,7 +18,7 @@ pub(crate) fn is_listed(n: usize) -> bool
 
 // The number of an input's refusal by its length and its first byte, or 0 where it has as many values as n asks for.
 pub(crate) fn refusal_of(input: &[u8]) -> u8
-    ensures { λ r. ⌜ r ≡ refusalOf (now (input .entry)) ⌝ }
+    ensures { λ r. ⌜ r ≡ inputRefusal (now (input .entry)) ⌝ }
 {
     if input.len() < 2 {
         return 2;

@@ -49,9 +49,6 @@ module _ (image : List ℕ) (words group count : ℕ) (classes₀ : List ℕ) (v
   }
 
   module _ (classes : List ℕ) (values : List ℤ) (y : ℕ) (s : Spread image words group count classes₀ values₀ classes values y) where
-    pub classes-length : length classes ≡ length classes₀
-    classes-length = ap length (s .classed) ∙ made-length (blockClass image words group classes₀) classes₀ count (b .classRoom) y (s .within)
-
     pub values-length : length values ≡ length values₀
     values-length = ap length (s .valued) ∙ made-length (blockValue image words group classes₀ values₀) values₀ count (b .valueRoom) y (s .within)
 

@@ -20,8 +20,8 @@ pub record TextReady (n : ℕ) (table : List ℤ) (cells : List Cell) (count bit
   pub room : textRoom ≤ length text
 
 -- The number of an input's refusal by the checks on its bytes, in their order; 0 where it passes them.
-unfoldable pub refusalOf : List ℕ → ℕ
-refusalOf input = cond (leb 2 (length input)) (cond (isListed (getD input 0 0)) (cond (eqb (length input) (2 + 4 * 2 ^ getD input 0 0)) 0 2) 1) 2
+unfoldable pub inputRefusal : List ℕ → ℕ
+inputRefusal input = cond (leb 2 (length input)) (cond (isListed (getD input 0 0)) (cond (eqb (length input) (2 + 4 * 2 ^ getD input 0 0)) 0 2) 1) 2
 
 -- An input with as many values as n asks for, and a buffer that holds every text.
 pub record InputCounted (input text : List ℕ) : Type 0 where

@@ -26,7 +26,7 @@ use Rattle.cascade.specs.Laws.Admitting.{plan-admits}
 use Rattle.cascade.specs.Laws.Chosen.{chosen-best, chosen-refuses-by-nine}
 use Rattle.cascade.specs.Laws.Lengths.{image-length-most}
 use Rattle.listing.specs.Listing.{mostListed, isListed, imageRoom, tableOf, listed, answerText, listing}
-use Rattle.listing.specs.Inner.Listed.{refusalOf}
+use Rattle.listing.specs.Inner.Listed.{inputRefusal}
 use Rattle.lines.specs.Text.{line}
 
 -- n of a table that is listed is from 1 to 11.
@@ -154,8 +154,8 @@ pub data Checked (input : List ℕ) (number : ℕ) : Type 0 where
   turned-away : (number ≡ 0 → ⊥) → listed input ≡ refused number → Checked input number
   passed : number ≡ 0 → isListed (getD input 0 0) ≡ true → length input ≡ 2 + 4 * 2 ^ getD input 0 0 → Checked input number
 
-pub checked : (input : List ℕ) → Checked input (refusalOf input)
-unfolding refusalOf
+pub checked : (input : List ℕ) → Checked input (inputRefusal input)
+unfolding inputRefusal
 checked input =
     yes-or-no (leb 2 (length input))
     (λ e.

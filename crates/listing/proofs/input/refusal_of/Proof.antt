@@ -8,14 +8,14 @@ use lib.ListN.{length, getD}
 use lib.Pow.{pow-mono}
 use borrow.Author.Tests.{lt-leb, le-leb, eq-eqb, ne-eqb, not-true, not-false}
 use Rattle.listing.specs.Listing.{isListed}
-use Rattle.listing.specs.Inner.Listed.{refusalOf}
+use Rattle.listing.specs.Inner.Listed.{inputRefusal}
 use Rattle.listing.specs.Laws.Listed.{listed-range}
 use borrow.Author.Needs.{needs}
 use Rattle.listing.proofs.input.refusal_of.Statement.{statement}
 use Rattle.listing.proofs.input.refusal_of.Tie as tie
 
 returns : tie.Need-returns
-unfolding refusalOf
+unfolding inputRefusal
 returns c = rw (lt-leb 2 (length (c .before .before .args .input .now)) (c .if1 .taken))
 
 shared-slice-read-n : tie.Need-shared-slice-read-n
@@ -35,7 +35,7 @@ module _ (c : tie.After-is-listed) where
   two = c .before .before .if1 .left
 
 returns-2 : tie.Need-returns-2
-unfolding refusalOf
+unfolding inputRefusal
 returns-2 c =
     let i = c .before in
     rw (le-leb 2 (length (input i)) (two i), sym (i .is-listed .ensures) ∙ not-true _ (c .if2 .taken))
@@ -65,7 +65,7 @@ add-if3 : tie.Need-add-if3
 add-if3 c = let m = most c in omega arith
 
 returns-3 : tie.Need-returns-3
-unfolding refusalOf
+unfolding inputRefusal
 returns-3 c =
     let e = c .before .before in
     let made = c .before .power .ensures in
@@ -73,7 +73,7 @@ returns-3 c =
     rw (le-leb 2 (length (input (e .before))) (two (e .before)), inside e, ne-eqb _ _ other)
 
 returns-4 : tie.Need-returns-4
-unfolding refusalOf
+unfolding inputRefusal
 returns-4 c =
     let e = c .before .before in
     let made = c .before .power .ensures in

@@ -123,7 +123,7 @@ def main():
             if name.endswith(".rt"):
                 rewrite(path, source)
             elif name.endswith(".antt"):
-                rewrite(path, function_proof if name in ("Proof.antt", "Answers.antt", "Invariants.antt") else lemma_file)
+                rewrite(path, function_proof if name == "Proof.antt" else lemma_file)
     for folder, _, files in os.walk("docs"):
         for name in files:
             if name.endswith(".md"):

@@ -1,5 +1,7 @@
 // Blocks of a table and their classes: what they are, how blocks are compared, how many classes a search tries, how many blocks use a
 // class, and where all that stands in rows of all cuts.
+#![tactic(auto)]
+
 pub mod comparing;
 
 ghost use Rattle.std.specs.Prelude.{◌≡◌, ◌+◌, ◌*◌, ◌^◌, ◌<◌, length, get_or};
@@ -13,7 +15,7 @@ pub const ALL_CUTS: usize = numbers::MOST_VARIABLES + 1;
 pub const ALL_PLACES: usize = 2 * numbers::MOST_VALUES - 1;
 
 // A class and how many blocks have it.
-#[derive(Drop)]
+#[derive(Clone, Copy)]
 pub struct Common {
     pub class: usize,
     pub uses: usize,

@@ -1,4 +1,6 @@
 // Build: the reduced diagram of a table, from the classes of its cuts.
+#![tactic(auto)]
+
 mod building;
 pub mod forks;
 mod ranges;

@@ -1,5 +1,7 @@
 // The judges of the test program: whether a case passes, by what the operation answers and leaves; by operation, over rows and lines
 // of numbers.
+#![tactic(auto)]
+
 pub mod cascades;
 pub mod case_lines;
 pub mod diagrams;

@@ -4,7 +4,7 @@ ghost use Rattle.cases.specs.Tallies.{noted};
 
 use libc::STDOUT_FILENO;
 
-#[derive(Drop)]
+#[derive(Clone, Copy)]
 pub struct Tally {
     pub passed: u64,
     pub failed: u64,

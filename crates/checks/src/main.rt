@@ -1,5 +1,7 @@
 // The checked values that are run, and for every operation its refusals and its answers: the cases that standard input holds.
 // Prints a line for each case, and at the end how many passed and failed.
+#![tactic(auto)]
+
 mod judging;
 
 ghost use Rattle.stdin.specs.Input.{Keeps};

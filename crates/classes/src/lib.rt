@@ -1,5 +1,7 @@
 // The classes of every cut: each block's class, each class's first block, how many classes a cut has, how many classes were tried for
 // each block, how many blocks up to and including it have its class, and how many have each class.
+#![tactic(auto)]
+
 pub mod commonest;
 mod cuts;
 mod search;

@@ -6,7 +6,7 @@ ghost use Rattle.blocks.specs.Inner.Layout.{part};
 ghost use Rattle.classes.specs.Inner.Searching.{part_differences, PartsWithin, first_between, KnownClasses, looked_up, uses_with, SmallCounts, found_among};
 
 // A class that was looked up, and how many classes were tried, that one included.
-#[derive(Drop)]
+#[derive(Clone, Copy)]
 struct Looked {
     class: usize,
     tried: usize,
@@ -14,7 +14,7 @@ struct Looked {
 
 // What the search for a block's class finds: the class, how many classes were tried, that one included, and how many blocks up to
 // and including this one have it.
-#[derive(Drop)]
+#[derive(Clone, Copy)]
 pub(crate) struct Found {
     pub class: usize,
     pub tried: usize,

@@ -1,4 +1,6 @@
 // Compile: the image of the least-cost grouping of a table, written into a lent buffer.
+#![tactic(auto)]
+
 mod cells;
 mod commands;
 mod lengths;

@@ -1,5 +1,7 @@
 // A table as people write it, in decimal text: what a text gives, what is proved of it, and the operation, from the bytes of the text
 // to the bytes of the listing's input.
+#![tactic(auto)]
+
 mod headings;
 mod numerals;
 mod values;
@@ -9,7 +11,7 @@ ghost use Rattle.decimal.specs.Table.{Reads};
 ghost use Rattle.decimal.specs.Inner.Values.{table_at, limit_at, Answers, BodyReady, LimitReady};
 
 // What was expected where a text goes wrong.
-#[derive(Drop)]
+#[derive(Clone, Copy)]
 pub enum Expected {
     // n, on the first line.
     Variables,
@@ -25,7 +27,7 @@ pub enum Expected {
 
 // What a text gives: the length of the input in the lent buffer, or the line on which something else was expected; or that the
 // buffer is too short for some input.
-#[derive(Drop)]
+#[derive(Clone, Copy)]
 pub enum Parsed {
     Input { length: usize },
     Wrong { line: usize, expected: Expected },
@@ -33,21 +35,21 @@ pub enum Parsed {
 }
 
 // A place in a text, and its line.
-#[derive(Drop)]
+#[derive(Clone, Copy)]
 pub struct Position {
     pub at: usize,
     pub line: usize,
 }
 
 // What digits give: their number up to 2^31.
-#[derive(Drop)]
+#[derive(Clone, Copy)]
 pub enum Digits {
     Small(usize),
     NotSmall,
 }
 
 // What a word gives: its number of 32 bits.
-#[derive(Drop)]
+#[derive(Clone, Copy)]
 pub enum Number {
     Whole(i32),
     NotWhole,
@@ -55,21 +57,21 @@ pub enum Number {
 
 // What comes next in a text: a number of 32 bits, with the place behind it, or none, at any other word or at the end; each with
 // its line.
-#[derive(Drop)]
+#[derive(Clone, Copy)]
 pub enum Item {
     Valued { number: i32, line: usize, at: usize },
     Other { line: usize },
 }
 
 // A number in its range on the first line, with the place behind it.
-#[derive(Drop)]
+#[derive(Clone, Copy)]
 pub enum Heading {
     Found { number: usize, at: usize },
     Missing,
 }
 
 // Whether the values are all there, and nothing more.
-#[derive(Drop)]
+#[derive(Clone, Copy)]
 pub enum Body {
     Good,
     Wrong { line: usize, expected: Expected },

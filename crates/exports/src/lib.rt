@@ -1,5 +1,7 @@
 // The C interface: each operation, the classes of all cuts, and the two widths. Nothing is required of a caller; a refusal's number is
 // the result, 0 for success, and a refusal leaves whatever was lent as it was.
+#![tactic(auto)]
+
 pub mod build_walk;
 pub mod class_cuts;
 pub mod pair_run;

@@ -1,6 +1,8 @@
 // The card image: its commands and their sizes, the places that reading reaches, what Run and Expand answer, and the laws of all that.
 // It knows nothing of tables.
 
+#![tactic(auto)]
+
 ghost use Rattle.std.specs.Prelude.{◌≡◌};
 ghost use Rattle.numbers.specs.Widths.{cell_bits};
 ghost use Rattle.image.specs.Inner.Bounds.{CellFits};
@@ -21,7 +23,7 @@ pub const END_SIZE: usize = 5;
 pub const MOST_CLASSES: usize = numbers::MOST_VALUES;
 
 // A command of the image with its operands.
-#[derive(Drop)]
+#[derive(Clone, Copy)]
 pub enum Command {
     // 0x56: variables and offset.
     Table {
@@ -47,7 +49,7 @@ pub enum Command {
 }
 
 // A place in the image, with what the commands before it leave to be judged.
-#[derive(Drop)]
+#[derive(Clone, Copy)]
 pub struct Place {
     // The next byte.
     pub at: usize,
@@ -69,28 +71,28 @@ pub struct Place {
 }
 
 // What one step of the reader yields.
-#[derive(Drop)]
+#[derive(Clone, Copy)]
 pub enum Step {
     Read(Command, Place),
     Refused(u8),
 }
 
 // Run's answer.
-#[derive(Drop)]
+#[derive(Clone, Copy)]
 pub enum Ran {
     Value { value: i32, words: usize },
     Refused(u8),
 }
 
 // Expand's answer. The values stand in the lent buffer.
-#[derive(Drop)]
+#[derive(Clone, Copy)]
 pub enum Expanded {
     Table,
     Refused(u8),
 }
 
 // The kinds of commands.
-#[derive(Drop)]
+#[derive(Clone, Copy)]
 pub enum Kind {
     Table,
     Cell,
@@ -99,7 +101,7 @@ pub enum Kind {
 }
 
 // Where evaluation stands: the next cell, the variables left, the class, and what the cells so far gave.
-#[derive(Drop)]
+#[derive(Clone, Copy)]
 pub struct Progress {
     pub at: usize,
     pub left: usize,
@@ -109,7 +111,7 @@ pub struct Progress {
 }
 
 // What evaluation gives: the value, and the words read for it.
-#[derive(Drop)]
+#[derive(Clone, Copy)]
 pub struct Evaluated {
     pub value: i32,
     pub words: usize,

@@ -1,4 +1,6 @@
 // The listing program: reads standard input to its end and writes the listing of the table in it to standard output.
+#![tactic(auto)]
+
 ghost use Rattle.stdin.specs.Input.{Keeps};
 ghost use Rattle.listing.specs.Kept.{kept_bytes};
 

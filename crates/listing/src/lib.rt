@@ -1,4 +1,6 @@
 // The listing of a table: what it is, what is proved of it, and the operation, from the bytes of the input to the bytes of the text.
+#![tactic(auto)]
+
 mod cell_lines;
 mod input;
 mod node_lines;
@@ -21,7 +23,7 @@ pub(crate) const LISTED_VALUES: usize = 2048;
 pub const TEXT_ROOM: usize = 113248;
 
 // What listing answers: the text's length, or that the buffer is too short for the text of some input.
-#[derive(Drop)]
+#[derive(Clone, Copy)]
 pub enum Listed {
     Text { length: usize },
     TooShort,

@@ -1,5 +1,7 @@
 // Numbers: the paper's ranges and widths, the form of every answer, and the laws of integers, lists and powers of two that every proof
 // cites.
+#![tactic(auto)]
+
 pub mod arithmetic;
 pub mod widths;
 
@@ -13,7 +15,7 @@ pub const MOST_VALUES: usize = 4096;
 pub const WIDEST_ADDRESS: usize = 12;
 
 // The outcome of an operation's checks: passed, or the number of the first that fails.
-#[derive(Drop)]
+#[derive(Clone, Copy)]
 pub enum Checked {
     Passed,
     Refused(u8),

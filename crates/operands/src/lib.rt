@@ -1,4 +1,6 @@
 // Operands: numbers of fixed width as bytes, the highest byte first, read and written at a place.
+#![tactic(auto)]
+
 pub mod writing;
 
 ghost use Rattle.std.specs.Prelude.{◌≡◌, ◌+◌, ◌≤◌, ◌<◌, length, get_or};

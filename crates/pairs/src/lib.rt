@@ -1,6 +1,8 @@
 // The pair run: an image as a function of X and Y, m bits each. It is read whole, for n = 2m, then evaluated at the index of X and Y.
 // The code knows nothing of tables; specs/PairTables has what compiled tables of two variables give.
 
+#![tactic(auto)]
+
 ghost use Rattle.std.specs.Prelude.{◌≡◌, true};
 ghost use Rattle.image.specs.Run.{ran};
 ghost use Rattle.pairs.specs.Pairs.{is_pair_bits, is_pair, pair_index, pair_run};

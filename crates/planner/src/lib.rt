@@ -1,4 +1,6 @@
 // Plan: the least-cost grouping of a table's variables within an address limit.
+#![tactic(auto)]
+
 mod cells;
 mod choices;
 mod planning;

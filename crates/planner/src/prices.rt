@@ -9,7 +9,7 @@ ghost use Rattle.planner.specs.Inner.Ready.{CellReady, AddressReady};
 ghost use Rattle.planner.specs.Inner.Extremes.{extremes_of};
 
 // The least and the greatest of the weights so far, and of 0.
-#[derive(Drop)]
+#[derive(Clone, Copy)]
 struct Extremes {
     least: i32,
     greatest: i32,

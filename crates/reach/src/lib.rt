@@ -1,5 +1,7 @@
 // Reach: the cuts that cells within an address limit arrive at, and the least limit that fits; what it is, what is proved of it, and
 // the operation.
+#![tactic(auto)]
+
 mod counts;
 mod narrow_cells;
 
@@ -11,14 +13,14 @@ ghost use Rattle.reach.specs.Inner.Checks.{call_checks, refused_reach};
 use numbers::Checked;
 
 // Reach's verdict: the number of cuts, and the least address limit that fits.
-#[derive(Drop)]
+#[derive(Clone, Copy)]
 pub enum ReachVerdict {
     Cuts { count: usize, least: usize },
     Refused(u8),
 }
 
 // Reach's answer: the verdict beside the cuts, 0 past the last one and all 0 in a refusal.
-#[derive(Drop)]
+#[derive(Clone, Copy)]
 pub struct Reached {
     pub verdict: ReachVerdict,
     pub cuts: [usize; blocks::ALL_CUTS],

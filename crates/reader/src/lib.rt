@@ -1,4 +1,6 @@
 // The image reader: a step from a place to a command and the next place, in the paper's order of checks, and the check of a whole image.
+#![tactic(auto)]
+
 mod commands;
 mod operand_rules;
 mod places;

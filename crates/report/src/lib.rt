@@ -1,5 +1,7 @@
 // The report on the values of a record list over a part of its domain: what it is, what is proved of it, and the operation: the
 // checks of a record list and of the part, then the values there one after the other.
+#![tactic(auto)]
+
 mod tops;
 
 ghost use Rattle.std.specs.Prelude.{◌≡◌, true, ◌<◌};
@@ -10,7 +12,7 @@ ghost use Rattle.report.specs.Report.{values_from, figures_of, is_part, report, 
 use numbers::Checked;
 
 // The report's answer.
-#[derive(Drop)]
+#[derive(Clone, Copy)]
 pub enum Reported {
     Report {
         count: usize,

@@ -1,4 +1,6 @@
 // Run and Expand: an image is read whole, then evaluated by its words in place, at one X or from the top cell down at all of them.
+#![tactic(auto)]
+
 mod evaluation;
 mod expansion;
 

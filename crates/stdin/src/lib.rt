@@ -1,4 +1,6 @@
 // Standard input, read to its end, of which the first bytes are kept.
+#![tactic(auto)]
+
 ghost use Rattle.std.specs.Prelude.{length};
 ghost use Rattle.stdin.specs.Inner.{PieceWithin};
 ghost use Rattle.stdin.specs.Input.{KeptWithin};
@@ -6,7 +8,7 @@ ghost use Rattle.stdin.specs.Input.{KeptWithin};
 use libc::STDIN_FILENO;
 
 // What one read gave.
-#[derive(Drop)]
+#[derive(Clone, Copy)]
 pub enum Piece {
     Bytes(usize),
     End,
@@ -14,7 +16,7 @@ pub enum Piece {
 }
 
 // What reading the whole input gave: the count of the bytes kept, or that a read failed.
-#[derive(Drop)]
+#[derive(Clone, Copy)]
 pub enum Input {
     Kept(usize),
     Unreadable,

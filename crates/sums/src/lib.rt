@@ -1,5 +1,7 @@
 // Sum and Remainder: tables by weights, one for each bit of X: the sum of the weights whose bits are 1, and its remainder by a power
 // of two; what they are, what is proved of them, and the two operations.
+#![tactic(auto)]
+
 mod sum_tables;
 mod weight_lists;
 
@@ -9,7 +11,7 @@ ghost use Rattle.sums.specs.Sums.{Weighted, plain_sum, reduced_sum, Fills};
 use numbers::Checked;
 
 // What Sum and Remainder answer beside their table buffer.
-#[derive(Drop)]
+#[derive(Clone, Copy)]
 pub enum Summed {
     Table,
     Refused(u8),

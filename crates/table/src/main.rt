@@ -1,5 +1,7 @@
 // The listing of a table in decimal text: reads standard input to its end and writes the listing to standard output. Where the text
 // is no table, standard error has the line and what was expected there, and standard output the refusal's number.
+#![tactic(auto)]
+
 mod messages;
 
 ghost use Rattle.stdin.specs.Input.{Keeps};
@@ -13,7 +15,7 @@ use stdin::Input;
 const KEPT: usize = 1048577;
 
 // What a text gives: the length of its listing, or the line on which something else was expected.
-#[derive(Drop)]
+#[derive(Clone, Copy)]
 enum Answer {
     Listing(usize),
     Wrong { line: usize, expected: Expected },

@@ -1,4 +1,6 @@
 // Walk: the check of a record list, and its value at X.
+#![tactic(auto)]
+
 mod edges;
 pub mod lists;
 mod node_ranges;

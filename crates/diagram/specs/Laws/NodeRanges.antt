@@ -4,7 +4,7 @@ use Prim.Native.Nat.{ℕ, zero, suc, ◌+◌, ◌-◌, ◌*◌, ◌%◌, ◌^◌
 use Rattle.std.specs.Prelude.{◌≡◌, refl, ◌↔◌, Bool, true, false, ◌&&◌, List, length, get_or, ℤ, pos, nat_abs, ◌+ℤ◌}
 use Rattle.std.proofs.Math.Path.{sym, ap₂}
 use Rattle.std.proofs.Common.{◌∙◌, ap, mod-lt, mod-eq_of_lt, one-mul, zero-add, arith, pow_pos, pow_mono, ltb-true}
-use Rattle.std.proofs.Math.Logic.{Iff·trans}
+use Rattle.std.proofs.Math.Logic.Iff
 use Rattle.std.proofs.Math.Nat.{mul-add-mod_self_right, two-pow-succ}
 use Rattle.std.proofs.lemmas.List.{length-map}
 use Rattle.std.specs.Int.Signed.{mag, lt_z}
@@ -163,16 +163,16 @@ range_record list (suc k) h = refl
 module _ (n : ℕ) (list : List ℤ) (k : ℕ) where
   -- Its last two numbers as tests, and as the least and the greatest of its function.
   least_over : (least_at list k ≡ least_of (node_values n list k)) ↔ LeastOver (Domain n) (path_weight list n k) (least_at list k)
-  least_over = Iff·trans (extreme_over leasts n list k (least_at list k)) (first_is_least (Domain n) (path_weight list n k) (least_at list k))
+  least_over = Iff.trans (extreme_over leasts n list k (least_at list k)) (first_is_least (Domain n) (path_weight list n k) (least_at list k))
 
   greatest_over : (greatest_at list k ≡ greatest_of (node_values n list k)) ↔ GreatestOver (Domain n) (path_weight list n k) (greatest_at list k)
-  greatest_over = Iff·trans (extreme_over greatests n list k (greatest_at list k)) (first_is_greatest (Domain n) (path_weight list n k) (greatest_at list k))
+  greatest_over = Iff.trans (extreme_over greatests n list k (greatest_at list k)) (first_is_greatest (Domain n) (path_weight list n k) (greatest_at list k))
 
   pub least_test : (eq_z (least_at list k) (least_of (node_values n list k)) ≡ true) ↔ LeastOver (Domain n) (path_weight list n k) (least_at list k)
-  least_test = Iff·trans (same_test (least_at list k) (least_of (node_values n list k))) least_over
+  least_test = Iff.trans (same_test (least_at list k) (least_of (node_values n list k))) least_over
 
   pub greatest_test : (eq_z (greatest_at list k) (greatest_of (node_values n list k)) ≡ true) ↔ GreatestOver (Domain n) (path_weight list n k) (greatest_at list k)
-  greatest_test = Iff·trans (same_test (greatest_at list k) (greatest_of (node_values n list k))) greatest_over
+  greatest_test = Iff.trans (same_test (greatest_at list k) (greatest_of (node_values n list k))) greatest_over
 
   -- The numbers of a record that passes are true.
   passing_range : record_fits n list k ≡ true → (least_at list k ≡ least_of (node_values n list k)) × (greatest_at list k ≡ greatest_of (node_values n list k))

@@ -2,7 +2,7 @@
 use Rattle.std.specs.Prelude.{ℕ, ◌+◌, ◌*◌, ◌^◌, ◌≤◌, ◌<◌, ◌≡◌, true, false, List, [], ◌∷◌, length, get_or, ℤ, pos}
 use Rattle.std.proofs.Common.{◌∙◌, arith}
 use Rattle.std.proofs.Math.Path.{ap}
-use Rattle.std.proofs.Math.Logic.{Iff·symm}
+use Rattle.std.proofs.Math.Logic.Iff
 use Rattle.numbers.specs.Answers.{refused}
 use Rattle.numbers.specs.Conditions.{Limit, TableValue}
 use Rattle.numbers.specs.Lists.{every}
@@ -42,7 +42,7 @@ module _ (input : List ℕ) where
   under_two_bytes short = printed 2 (listed_under_two input short)
 
   pub variables_outside : 2 ≤ length input → ¬ ((1 ≤ n) × (n ≤ 11)) → listing input ≡ refused_by 1
-  variables_outside two outside = printed 1 (listed_outside input two ((fails_test (is_listed n) (Iff·symm (variables_listed n))).1 outside))
+  variables_outside two outside = printed 1 (listed_outside input two ((fails_test (is_listed n) (Iff.symm (variables_listed n))).1 outside))
 
   module _ (inside : (1 ≤ n) × (n ≤ 11)) where
     pub byte_count_wrong : 2 ≤ length input → ¬ (length input ≡ 2 + 4 * 2 ^ n) → listing input ≡ refused_by 2

@@ -3,7 +3,7 @@ use Prim.Native.Nat.{ℕ, suc, ◌^◌, ◌≤◌, ◌<◌}
 use Rattle.std.specs.Prelude.{◌≡◌, ◌↔◌, true, false, List, length, get_or, ℤ, pos, ◌≤ℤ◌, ◌<ℤ◌}
 use Rattle.std.proofs.Common.{sym, ◌∙◌}
 use Rattle.std.proofs.Math.Path.{ap}
-use Rattle.std.proofs.Math.Logic.{Iff·trans, Iff·symm}
+use Rattle.std.proofs.Math.Logic.Iff
 use Rattle.std.specs.Int.Signed.{non_neg, clash_ℤ}
 use Rattle.numbers.specs.Lists.{every}
 use Rattle.numbers.specs.Ranges.{eq_z}
@@ -58,4 +58,4 @@ module _ (weights : List ℤ) where
   -- ---- every cell
 
   pub zero_width : ((j : ℕ) → j < length weights → weight j ≡ pos 0) ↔ (weight_width weights ≡ 0)
-  zero_width = Iff·symm (Iff·trans (weight_width_zero weights) (every_test (λ z. eq_z z (pos 0)) weights (pos 0) (λ z. same_test z (pos 0))))
+  zero_width = Iff.symm (Iff.trans (weight_width_zero weights) (every_test (λ z. eq_z z (pos 0)) weights (pos 0) (λ z. same_test z (pos 0))))

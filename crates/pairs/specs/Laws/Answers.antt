@@ -69,15 +69,15 @@ module _ (m : ℕ) (image : List ℕ) (x y : ℕ) where
 
   module _ (X : Answer Result → Type 0)
       (no_bits : is_pair_bits m ≡ false → X (refused 16))
-      (no-image : is_pair_bits m ≡ true → (k : ℕ) → reading_for (2 * m) image ≡ refused k → X (refused k))
-      (no-pair : is_pair_bits m ≡ true → (commands : List Command) → reading_for (2 * m) image ≡ accepted commands → is_pair m x y ≡ false → X (refused 17))
+      (no_image : is_pair_bits m ≡ true → (k : ℕ) → reading_for (2 * m) image ≡ refused k → X (refused k))
+      (no_pair : is_pair_bits m ≡ true → (commands : List Command) → reading_for (2 * m) image ≡ accepted commands → is_pair m x y ≡ false → X (refused 17))
       (answer : is_pair_bits m ≡ true → (commands : List Command) → reading_for (2 * m) image ≡ accepted commands → is_pair m x y ≡ true → X (accepted (run_card (card_of commands) (pair_index m x y)))) where
     by_image : is_pair_bits m ≡ true → (a : Answer (List Command)) → reading_for (2 * m) image ≡ a → X (pair_run m image x y)
-    by_image b (refused k) h = subst X (sym (image_refused b k h)) (no-image b k h)
+    by_image b (refused k) h = subst X (sym (image_refused b k h)) (no_image b k h)
     by_image b (accepted commands) h =
         yes_or_no (is_pair m x y)
         (λ p. subst X (sym (pair_answers b commands h p)) (answer b commands h p))
-        (λ p. subst X (sym (pair_refused b commands h p)) (no-pair b commands h p))
+        (λ p. subst X (sym (pair_refused b commands h p)) (no_pair b commands h p))
 
     pub by_cases : X (pair_run m image x y)
     by_cases = yes_or_no (is_pair_bits m) (λ b. by_image b (reading_for (2 * m) image) refl) (λ b. subst X (sym (bits_refused b)) (no_bits b))

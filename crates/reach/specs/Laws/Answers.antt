@@ -20,10 +20,10 @@ use Rattle.reach.specs.Reach.{Reachable, reachable, reach}
 module _ (n : ℕ) (table : List ℤ) (limit : ℕ) where
   -- By the first check that fails; where none does, what is found beside what is chosen.
   module _ (Y : Answer Reachable → Answer (List ℕ) → Type 0)
-      (no-n : is_variables n ≡ false → Y (refused 1) (refused 1))
+      (no_n : is_variables n ≡ false → Y (refused 1) (refused 1))
       (no_size : is_variables n ≡ true → (length table ≡ 2 ^ n → ⊥) → Y (refused 2) (refused 2))
       (no_value : is_variables n ≡ true → length table ≡ 2 ^ n → every is_value table ≡ false → Y (refused 3) (refused 3))
-      (no-limit : Accepted n table → is_limit limit ≡ false → Y (refused 8) (refused 8))
+      (no_limit : Accepted n table → is_limit limit ≡ false → Y (refused 8) (refused 8))
       (none : Accepted n table → is_limit limit ≡ true → Y (accepted (reachable n table limit)) (chosen n table limit)) where
     pub by_checks : Y (reach n table limit) (plan n table limit)
     unfolding reach plan of_table
@@ -37,10 +37,10 @@ module _ (n : ℕ) (table : List ℤ) (limit : ℕ) where
         let t : Accepted n table = record { variables = a; size = eqb-true (length table) (2 ^ n) b; values = c } in
         yes_or_no (is_limit limit)
         (λ d. rw (a, b, c, d) (none t d))
-        (λ d. rw (a, b, c, d) (no-limit t d)))
+        (λ d. rw (a, b, c, d) (no_limit t d)))
         (λ c. rw (a, b, c) (no_value a (eqb-true (length table) (2 ^ n) b) c)))
         (λ b. rw (a, b) (no_size a (eqb-false (length table) (2 ^ n) b))))
-        (λ a. rw a (no-n a))
+        (λ a. rw a (no_n a))
 
   -- ---- refusals
 
@@ -72,20 +72,20 @@ module _ (n : ℕ) (table : List ℤ) (limit : ℕ) where
 
   -- What a refusal tells: the first check that fails.
   module _ (X : ℕ → Type 0)
-      (no-n : is_variables n ≡ false → X 1)
+      (no_n : is_variables n ≡ false → X 1)
       (no_size : is_variables n ≡ true → (length table ≡ 2 ^ n → ⊥) → X 2)
       (no_value : is_variables n ≡ true → length table ≡ 2 ^ n → every is_value table ≡ false → X 3)
-      (no-limit : Accepted n table → is_limit limit ≡ false → X 8) where
+      (no_limit : Accepted n table → is_limit limit ≡ false → X 8) where
     number_is : (j k : ℕ) → X j → ◌≡◌ {A = Answer Reachable} (refused j) (refused k) → X k
     number_is j k x e = subst X (let same : j ≡ k = cc in same) x
 
     pub refusal_tells : (k : ℕ) → reach n table limit ≡ refused k → X k
     refusal_tells k =
         by_checks (λ a p. a ≡ refused k → X k)
-        (λ a. number_is 1 k (no-n a))
+        (λ a. number_is 1 k (no_n a))
         (λ a b. number_is 2 k (no_size a b))
         (λ a b c. number_is 3 k (no_value a b c))
-        (λ t d. number_is 8 k (no-limit t d))
+        (λ t d. number_is 8 k (no_limit t d))
         (λ t d e. not_refused (reachable n table limit) k e)
 
   -- What an answer tells.

@@ -30,7 +30,7 @@ module _ (n : ℕ) (weights : List ℤ) (size : length weights ≡ n) where
 module _ (n : ℕ) (weights : List ℤ) {A : Type 0} (rest : Answer A) where
   -- By the first of them that fails.
   module _ {ℓ} (Y : Answer A → Type ℓ)
-      (no-n : ¬ Variables n → Y (refused 1))
+      (no_n : ¬ Variables n → Y (refused 1))
       (no_size : Variables n → ¬ (length weights ≡ n) → Y (refused 2))
       (no_value : Variables n → length weights ≡ n → WeightOut n weights → Y (refused 3))
       (none : Weighted n weights → Y rest) where
@@ -47,7 +47,7 @@ module _ (n : ℕ) (weights : List ℤ) {A : Type 0} (rest : Answer A) where
         (λ c. rw (a, b, c) (none (record { variables = v; size = size; values = (weights_test n weights size).0 c })))
         (λ c. rw (a, b, c) (no_value v size ((weight_out n weights size).0 c))))
         (λ b. rw (a, b) (no_size v (eqb-false (length weights) n b))))
-        (λ a. rw a (no-n ((fails (is_variables n) (variables_test n)).0 a)))
+        (λ a. rw a (no_n ((fails (is_variables n) (variables_test n)).0 a)))
 
   pub unnumbered : ¬ Variables n → of_weights n weights rest ≡ refused 1
   unfolding of_weights
@@ -73,7 +73,7 @@ module _ (n : ℕ) (weights : List ℤ) (own : Bool) (number room : ℕ) (table 
   table_answer = of_weights n weights (unless own number (into_room n room table))
 
   module _ {ℓ} (Y : Answer (List ℤ) → Type ℓ)
-      (no-n : ¬ Variables n → Y (refused 1))
+      (no_n : ¬ Variables n → Y (refused 1))
       (no_size : Variables n → ¬ (length weights ≡ n) → Y (refused 2))
       (no_value : Variables n → length weights ≡ n → WeightOut n weights → Y (refused 3))
       (no_own : Weighted n weights → own ≡ false → Y (refused number))
@@ -82,7 +82,7 @@ module _ (n : ℕ) (weights : List ℤ) (own : Bool) (number room : ℕ) (table 
     pub by_checks : Y table_answer
     unfolding into_room
     by_checks =
-        by_weights n weights (unless own number (into_room n room table)) Y no-n no_size no_value
+        by_weights n weights (unless own number (into_room n room table)) Y no_n no_size no_value
         (λ w.
         yes_or_no own
         (λ d.
@@ -108,7 +108,7 @@ module _ (n : ℕ) (weights : List ℤ) (own : Bool) (number room : ℕ) (table 
 
   -- What a refusal tells: the first check that fails.
   module _ (X : ℕ → Type 0)
-      (no-n : ¬ Variables n → X 1)
+      (no_n : ¬ Variables n → X 1)
       (no_size : Variables n → ¬ (length weights ≡ n) → X 2)
       (no_value : Variables n → length weights ≡ n → WeightOut n weights → X 3)
       (no_own : Weighted n weights → own ≡ false → X number)
@@ -119,7 +119,7 @@ module _ (n : ℕ) (weights : List ℤ) (own : Bool) (number room : ℕ) (table 
     pub refusal_tells : (k : ℕ) → table_answer ≡ refused k → X k
     refusal_tells k =
         by_checks (λ a. a ≡ refused k → X k)
-        (λ a. number_is 1 k (no-n a))
+        (λ a. number_is 1 k (no_n a))
         (λ a b. number_is 2 k (no_size a b))
         (λ a b c. number_is 3 k (no_value a b c))
         (λ w d. number_is number k (no_own w d))
@@ -140,11 +140,11 @@ module _ (n : ℕ) (weights : List ℤ) (own : Bool) (number room : ℕ) (table 
   -- ---- which calls are refused, and with which number
 
   -- The operation's own check passes, for an accepted list, exactly where its condition holds.
-  module _ {Own : Type 0} (own-test : Weighted n weights → (own ≡ true) ↔ Own) where
+  module _ {Own : Type 0} (own_test : Weighted n weights → (own ≡ true) ↔ Own) where
     pub answered_exactly : (Weighted n weights × Own × (room ≡ 2 ^ n)) ↔ ((t : List ℤ) × (table_answer ≡ accepted t))
     answered_exactly = (
-      (λ p. (table, answered p.0 ((own-test p.0).1 p.1) p.2)),
-      (λ a. let t = answer_tells a.0 a.1 in (t.0, (own-test t.0).0 t.1.0, t.1.1.0)),
+      (λ p. (table, answered p.0 ((own_test p.0).1 p.1) p.2)),
+      (λ a. let t = answer_tells a.0 a.1 in (t.0, (own_test t.0).0 t.1.0, t.1.1.0)),
     )
 
     -- Its number is not one of those before it.
@@ -161,12 +161,12 @@ module _ (n : ℕ) (weights : List ℤ) (own : Bool) (number room : ℕ) (table 
         two,
         (λ e.
             refusal_tells (λ k. k ≡ 2 → (Variables n × (¬ (length weights ≡ n))) ⊎ (Weighted n weights × Own × (¬ (room ≡ 2 ^ n))))
-            (λ a o. absurd (omega arith)) (λ a b o. inl (a, b)) (λ a b c o. absurd (omega arith)) (λ w d o. absurd (apart.1.0 o)) (λ w d r o. inr (w, (own-test w).0 d, r)) 2 e refl),
+            (λ a o. absurd (omega arith)) (λ a b o. inl (a, b)) (λ a b c o. absurd (omega arith)) (λ w d o. absurd (apart.1.0 o)) (λ w d r o. inr (w, (own_test w).0 d, r)) 2 e refl),
       )
         where
           two : (Variables n × (¬ (length weights ≡ n))) ⊎ (Weighted n weights × Own × (¬ (room ≡ 2 ^ n))) → table_answer ≡ refused 2
           two (inl p) = unsized n weights (unless own number (into_room n room table)) p.0 p.1
-          two (inr p) = unroomed p.0 ((own-test p.0).1 p.1) p.2
+          two (inr p) = unroomed p.0 ((own_test p.0).1 p.1) p.2
 
       pub refused_three : (Variables n × (length weights ≡ n) × WeightOut n weights) ↔ (table_answer ≡ refused 3)
       refused_three = (
@@ -178,10 +178,10 @@ module _ (n : ℕ) (weights : List ℤ) (own : Bool) (number room : ℕ) (table 
 
       pub refused_own : (Weighted n weights × (¬ Own)) ↔ (table_answer ≡ refused number)
       refused_own = (
-        (λ p. unadmitted p.0 ((fails own (own-test p.0)).1 p.1)),
+        (λ p. unadmitted p.0 ((fails own (own_test p.0)).1 p.1)),
         (λ e.
             refusal_tells (λ k. k ≡ number → Weighted n weights × (¬ Own))
-            (λ a o. absurd (apart.0 (sym o))) (λ a b o. absurd (apart.1.0 (sym o))) (λ a b c o. absurd (apart.1.1 (sym o))) (λ w d o. (w, (fails own (own-test w)).0 d)) (λ w d r o. absurd (apart.1.0 (sym o))) number e refl),
+            (λ a o. absurd (apart.0 (sym o))) (λ a b o. absurd (apart.1.0 (sym o))) (λ a b c o. absurd (apart.1.1 (sym o))) (λ w d o. (w, (fails own (own_test w)).0 d)) (λ w d r o. absurd (apart.1.0 (sym o))) number e refl),
       )
 
 -- ---- what the buffer then holds

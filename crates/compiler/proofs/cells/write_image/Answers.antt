@@ -1,0 +1,52 @@
+-- `writer::write_image` meets its contract: the table command, the cells and the last command, one behind the other.
+use Prim.Native.Nat.{◌+◌, ◌≤◌}
+use mathlib.Core.Path.{◌≡◌, refl, ◌∙◌}
+use native.Mathlib.Omega.{arith}
+use lib.ListN.{length}
+use mir.Syntax.{w32}
+use mir.Val.{of_z, to_z}
+use mir.Facts.{to_z-of_z}
+use borrow.Author.Rules.{sfits_of, rules}
+use Rattle.blocks.specs.Blocks.{first}
+use Rattle.cascade.specs.Laws.Cells.{variables_most}
+use Rattle.cascade.specs.Inner.Planned.{groups}
+use Rattle.compiler.specs.Inner.Writing.{cells_bytes}
+use Rattle.compiler.specs.Laws.Images.{image_bytes, image_written}
+use Rattle.compiler.proofs.cells.write_image.Goals as goal
+use Rattle.compiler.proofs.cells.write_image.Goals.{Start}
+
+-- The three pieces have room.
+room : (s : Start) → 6 + length (cells_bytes s.args.n s.args.table.now (groups s.args.cells s.args.count)) + 5 ≤ length s.args.image.now
+room s = let a = s.args in let l = image_bytes a.n a.table.now (groups a.cells a.count) in let r = s.requires.1 in omega arith
+
+pub write_table-requires : goal.write_table-requires
+write_table-requires c =
+    let s = (goal.at.write_table-requires c).Start in
+    let r = room s in
+    let m = variables_most s.args.n s.args.table.now s.requires.0.0.admitted in
+    (omega arith, omega arith)
+
+pub write_cells-at-requires : goal.write_cells-at-requires
+write_cells-at-requires c =
+    let s = (goal.at.write_cells-at-requires c).Start in
+    let p = s.requires.0.1 in
+    let r = room s in
+    let k = c.write_table.auto.0 in
+    ((s.requires.0.0, record { few = p.few; grouping = p.grouping; planned = p.planned; total = refl }), omega arith)
+
+pub write_end-requires : goal.write_end-requires
+write_end-requires c =
+    let s = (goal.at.write_end-requires c).Start in
+    let r = room s in
+    let at = c.write_cells-at.ensures.0 in
+    let opened = c.write_table.auto.0 in
+    let filled = c.write_cells-at.auto.1.1.1.1.1.1.0 in
+    omega arith
+
+pub returns : goal.returns
+returns c =
+    let a = c.args in
+    let v = c.first_value in
+    let offset : to_z w32 (of_z w32 v.result) ≡ first a.table.now = to_z-of_z (sfits_of v.type_inv) ∙ v.ensures in
+    let cells = c.write_cells-at.ensures in
+    image_written a.n a.table.now (groups a.cells a.count) a.image.now c.requires.1 cells.0 c.requires.0.1.total (rw offset at c.write_table.ensures) cells.1 c.write_end.ensures

@@ -1,0 +1,9 @@
+-- `exports_image::panstrait_run` meets its contract: Run's answer comes back.
+use borrow.Author.Rules.{rules}
+use Rattle.exports.specs.Laws.RanGiven.{same_given}
+use Rattle.exports.specs.ImageGiven.{RunGiven}
+use Rattle.exports.proofs.run_expand.panstrait_run.Goals as goal
+
+pub returns : goal.returns
+unfolding RunGiven
+returns c = same_given c.run.ensures c.hand_back.ensures

@@ -1,0 +1,54 @@
+-- `lines::decimals::write_signed` meets its contract, by the sign.
+use Prim.Native.Nat.{◌+◌}
+use mathlib.Core.Path.{◌≡◌, refl, ◌∙◌, ap, sym}
+use mathlib.Core.List.{◌∷◌}
+use native.Mathlib.Omega.{arith}
+use lib.ListN.{length, length-set}
+use lib.IntN.{pos}
+use lib.Signed.{mag}
+use mir.Facts.{to_z-of_z}
+use Rattle.lines.specs.Text.{decimal}
+use Rattle.lines.specs.Laws.Writing.{byte_stored, writes_behind, negative_decimal, other_decimal}
+use borrow.Author.Rules.{rules}
+use Rattle.lines.proofs.decimals.write_signed.Goals as goal
+use Rattle.lines.proofs.decimals.write_signed.Goals.{Else-number-lt0, Then-number-lt0}
+
+-- A negative number: a minus sign, and one more than its unsigned part.
+module _ (c : Then-number-lt0) where
+  negative : decimal c.args.number ≡ 45 ∷ decimal (pos (c.unsigned_part-part.result + 1))
+  negative =
+      let back = to_z-of_z c.ranges.number in
+      negative_decimal c.args.number (rw back at c.if-number-lt0.true)
+      ∙ ap (λ size. 45 ∷ decimal (pos (size + 1))) (sym (c.unsigned_part-part.ensures ∙ ap mag back))
+
+-- Any other is its unsigned part.
+module _ (c : Else-number-lt0) where
+  other : decimal c.args.number ≡ decimal (pos c.unsigned_part-part.result)
+  other =
+      let back = to_z-of_z c.ranges.number in
+      other_decimal c.args.number (rw back at c.if-number-lt0.false)
+      ∙ ap (λ size. decimal (pos size)) (sym (c.unsigned_part-part.ensures ∙ ap mag back))
+
+pub bounds-text-at : goal.bounds-text-at
+bounds-text-at c = let e = ap length (negative c) in let p = c.requires in omega arith
+
+pub write_number-requires : goal.write_number-requires
+write_number-requires c = let e = ap length (negative (goal.at.write_number-requires c).Then-number-lt0) in let p = c.requires in let a = c.args in let s = length-set a.text.now a.at 45 in omega arith
+
+pub shape_of-text-then-number-lt0 : goal.shape_of-text-then-number-lt0
+shape_of-text-then-number-lt0 c = let a = c.args in c.write_number.auto.text ∙ length-set a.text.now a.at 45
+
+pub returns-then-number-lt0 : goal.returns-then-number-lt0
+returns-then-number-lt0 c =
+    let t = (goal.at.returns-then-number-lt0 c).Then-number-lt0 in
+    let s = c in
+    let a = s.args in
+    let e = ap length (negative t) in
+    let p = s.requires in
+    rw (negative t) (writes_behind (byte_stored a.text.now a.at 45 refl (omega arith)) (omega arith) c.write_number.ensures)
+
+pub write_number-requires-2 : goal.write_number-requires-2
+write_number-requires-2 c = rw (other (goal.at.write_number-requires-2 c).Else-number-lt0) at c.requires
+
+pub returns : goal.returns
+returns c = rw (other (goal.at.returns c).Else-number-lt0) c.write_number-2.ensures

@@ -1,0 +1,13 @@
+-- `operands::read_one` meets its contract.
+use mathlib.Core.Path.{sym, ◌∙◌}
+use native.Mathlib.Omega.{arith}
+use Rattle.operands.specs.Laws.Operands.{unsigned_one}
+use Rattle.operands.proofs.read_one.Goals as goal
+
+pub byte-requires : goal.byte-requires
+byte-requires c = omega arith
+
+pub returns : goal.returns
+returns c =
+    let a = c.args in
+    record { read = c.byte.ensures.0 ∙ sym (unsigned_one a.image.now a.at c.requires); small = c.byte.ensures.1 }

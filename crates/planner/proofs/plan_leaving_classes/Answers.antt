@@ -1,0 +1,46 @@
+-- `planner::plan_leaving_classes` meets its contract.
+use mathlib.Core.Path.{sym, ◌∙◌, ap, subst⁻¹}
+use borrow.Author.Rules.{rules}
+use Rattle.diagram.specs.Accepted.{Accepted}
+use Rattle.numbers.specs.Inner.Checks.{checked}
+use Rattle.diagram.specs.Laws.Builds.{passed_table}
+use Rattle.cascade.specs.Plan.{Plans}
+use Rattle.cascade.specs.declared.Planned.{Planned}
+use Rattle.planner.specs.Laws.Plans.{refused_plans, plan_unfit, plan_limited}
+use Rattle.planner.specs.Laws.Rows.{rows_filled, rows_kept, classed, unclassed}
+use Rattle.planner.proofs.plan_leaving_classes.Goals as goal
+use Rattle.planner.proofs.plan_leaving_classes.Goals.{In-Passed}
+
+-- The table passed its checks.
+module _ (c : In-Passed) where
+  passed : Accepted c.args.n c.args.table.now
+  unfolding checked
+  passed = passed_table c.args.n c.args.table.now (sym c.check_table.ensures ∙ ap checked c.in-Passed.is)
+
+pub returns-then-not-is_limit : goal.returns-then-not-is_limit
+returns-then-not-is_limit c =
+    let s = start (goal.at.returns-then-not-is_limit c).In-Passed in
+    let unlimited = sym c.is_limit.ensures ∙ c.if-not-is_limit.true in (
+      subst⁻¹ (λ (r : Planned). Plans s.args.n s.args.table.now s.args.limit r) c.refused_plan-then-not-is_limit.ensures
+          (refused_plans s.args.n s.args.table.now s.args.limit 8 (plan_limited s.args.n s.args.table.now s.args.limit (passed (goal.at.returns-then-not-is_limit c).In-Passed) unlimited)),
+      rows_kept s.args.n s.args.table.now s.args.limit (classed s.args.n s.args.table.now s.args.limit (passed (goal.at.returns-then-not-is_limit c).In-Passed) ∙ unlimited),
+    )
+
+pub plan_rows-requires : goal.plan_rows-requires
+plan_rows-requires c =
+    record { accepted = (passed (goal.at.plan_rows-requires c).In-Passed, sym c.is_limit.ensures ∙ c.if-not-is_limit.false); rows_room = c.requires }
+
+pub returns-in-Refused : goal.returns-in-Refused
+unfolding checked
+returns-in-Refused c =
+    let unfit = sym c.check_table.ensures ∙ ap checked c.in-Refused.is in record { plans = subst⁻¹ (λ (r : Planned). Plans c.args.n c.args.table.now c.args.limit r) c.refused_plan.ensures
+          (refused_plans c.args.n c.args.table.now c.args.limit _ (plan_unfit c.args.n c.args.table.now c.args.limit _ unfit)); rows_left = (
+      rows_kept c.args.n c.args.table.now c.args.limit (unclassed c.args.n c.args.table.now c.args.limit _ unfit),
+    ) }
+
+pub returns : goal.returns
+returns c =
+    let s = start (goal.at.returns c).In-Passed in (
+      c.plan_rows.ensures.0,
+      rows_filled s.args.n s.args.table.now s.args.limit (classed s.args.n s.args.table.now s.args.limit (passed (goal.at.returns c).In-Passed) ∙ sym c.is_limit.ensures ∙ c.if-not-is_limit.false) c.plan_rows.ensures.1,
+    )

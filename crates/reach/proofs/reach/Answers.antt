@@ -1,0 +1,142 @@
+-- `reacher::reach` meets its contract: the fronts of the rows are lent and come back with the classes of all cuts.
+use Prim.Native.Nat.{ℕ, suc, ◌+◌, ◌-◌, ◌^◌, ◌≤◌}
+use mathlib.Core.Path.{◌≡◌, sym, ◌∙◌, ap, subst⁻¹}
+use mathlib.Core.Bool.{true}
+use mathlib.Core.List.{List, ◌++◌}
+use native.Mathlib.Numerals.{add-one}
+use native.Mathlib.Omega.{arith}
+use lib.ListN.{length, take, length-append}
+use lib.Seq.{length-take-le, take_at}
+use lib.Pow.{pow_pos}
+use mir.Facts.{Fits-of_lt}
+use borrow.Author.Rules.{rules}
+use Rattle.numbers.specs.Ranges.{is_limit, most_variables}
+use Rattle.blocks.specs.Rows.{cut_place, all_counts}
+use Rattle.blocks.specs.Laws.Cuts.{places_most}
+use Rattle.blocks.specs.Laws.Places.{length_counts}
+use Rattle.diagram.specs.Accepted.{Accepted}
+use Rattle.numbers.specs.Inner.Checks.{checked}
+use Rattle.cascade.specs.Laws.Cells.{variables_most}
+use Rattle.reach.specs.Reach.{Reaches}
+use Rattle.reach.specs.declared.Reached.{Reached}
+use Rattle.reach.specs.Laws.Checks.{call_refused, call_admits}
+use Rattle.reach.specs.Laws.Reaching.{counts_ready, counts_reach, refused_reaches}
+use Rattle.reach.proofs.reach.Goals as goal
+use Rattle.reach.proofs.reach.Goals.{After-class_table, After-power-places, In-Passed}
+
+-- ---- a call that passed the checks
+module _ (c : In-Passed) where
+  admitted : Accepted c.args.n c.args.table.now × (is_limit c.args.limit ≡ true)
+  unfolding checked
+  admitted = call_admits c.args.n c.args.table.now c.args.limit (sym c.check_call.ensures ∙ ap checked c.in-Passed.is)
+
+  few : c.args.n ≤ 12
+  few = variables_most c.args.n c.args.table.now admitted.0
+
+pub overflow_add-cuts : goal.overflow_add-cuts
+overflow_add-cuts c = Fits-of_lt (let f = few c in omega arith)
+
+pub power-places-requires : goal.power-places-requires
+power-places-requires c = let f = few c in omega arith
+
+-- The rows' places.
+module _ (c : After-power-places) where
+  abbrev n : ℕ
+  n = c.args.n
+
+  places : c.power-places.result - 1 ≡ cut_place (suc n)
+  unfolding cut_place
+  places = ap (λ p. p - 1) (c.power-places.ensures ∙ ap (λ k. 2 ^ k) (add-one n))
+
+  few_places : c.power-places.result - 1 ≤ 8191
+  few_places = rw places (places_most n (few (goal.at.overflow_sub-places c).In-Passed))
+
+  few_counts : n + 1 ≤ 13
+  few_counts = let f = few (goal.at.overflow_sub-places c).In-Passed in omega arith
+
+pub overflow_sub-places : goal.overflow_sub-places
+overflow_sub-places c = rw c.power-places.ensures (pow_pos (n c + 1))
+
+pub slice_bounds-classes-end : goal.slice_bounds-classes-end
+slice_bounds-classes-end c = few_places c
+
+pub slice_bounds-class_table-end : goal.slice_bounds-class_table-end
+slice_bounds-class_table-end c = sym (length-take-le _ _ (few_places (goal.at.slice_bounds-class_table-end c).After-power-places))
+
+pub slice_bounds-firsts-end : goal.slice_bounds-firsts-end
+slice_bounds-firsts-end c = few_places (goal.at.slice_bounds-firsts-end c).After-power-places
+
+pub slice_bounds-class_table-end-2 : goal.slice_bounds-class_table-end-2
+slice_bounds-class_table-end-2 c = sym (length-take-le _ _ (few_places (goal.at.slice_bounds-class_table-end-2 c).After-power-places))
+
+pub slice_bounds-counts-end : goal.slice_bounds-counts-end
+slice_bounds-counts-end c = few_counts (goal.at.slice_bounds-counts-end c).After-power-places
+
+pub slice_bounds-class_table-end-3 : goal.slice_bounds-class_table-end-3
+slice_bounds-class_table-end-3 c = sym (length-take-le _ _ (few_counts (goal.at.slice_bounds-class_table-end-3 c).After-power-places))
+
+pub slice_bounds-use_counts-end : goal.slice_bounds-use_counts-end
+slice_bounds-use_counts-end c = few_places (goal.at.slice_bounds-use_counts-end c).After-power-places
+
+pub slice_bounds-class_table-end-4 : goal.slice_bounds-class_table-end-4
+slice_bounds-class_table-end-4 c = sym (length-take-le _ _ (few_places (goal.at.slice_bounds-class_table-end-4 c).After-power-places))
+
+pub class_table-requires : goal.class_table-requires
+unfolding most_variables
+class_table-requires c =
+    let p = (goal.at.class_table-requires c).After-power-places in record { cuts_room = (
+        record {
+          variables = few (goal.at.class_table-requires c).In-Passed;
+          whole = (admitted (goal.at.class_table-requires c).In-Passed).0.size;
+          class_places = length-take-le _ _ (few_places p) ∙ places p;
+          first_places = length-take-le _ _ (few_places p) ∙ places p;
+        },
+        length-take-le _ _ (few_places p) ∙ places p,
+      ); counts_len = length-take-le _ _ (few_counts p) ∙ add-one (n p) }
+
+-- What the classing left in the row of the counts.
+module _ (c : After-class_table) where
+  abbrev left : List ℕ
+  left = c.class_table.new.counts
+
+  counted : left ≡ all_counts c.args.n c.args.table.now
+  counted = c.class_table.ensures.all_classed.counted
+
+  kept : length left ≡ c.args.n + 1
+  kept = ap length counted ∙ length_counts c.args.n c.args.table.now ∙ sym (add-one c.args.n)
+
+  module _ (rest : List ℕ) where
+    within : c.args.n + 1 ≤ length (left ++ rest)
+    within = let l = length-append left rest in let k = kept in omega arith
+
+    front : take (c.args.n + 1) (left ++ rest) ≡ left
+    front = take_at left rest (c.args.n + 1) kept
+
+pub slice_bounds-counts-end-2 : goal.slice_bounds-counts-end-2
+slice_bounds-counts-end-2 c = within c.before.before.before.before _
+
+pub slice_bounds-reach_counts-end : goal.slice_bounds-reach_counts-end
+slice_bounds-reach_counts-end c = let k = (goal.at.slice_bounds-reach_counts-end c).After-class_table in sym (ap length (front k _) ∙ kept k)
+
+pub reach_counts-requires : goal.reach_counts-requires
+reach_counts-requires c =
+    let k = (goal.at.reach_counts-requires c).After-class_table in
+    let a = c.args in
+    counts_ready a.n a.table.now (admitted (goal.at.reach_counts-requires c).In-Passed).0 (front k _ ∙ counted k)
+
+-- ---- what is answered
+pub returns-in-Refused : goal.returns-in-Refused
+unfolding checked
+returns-in-Refused c =
+    let a = c.args in
+    subst⁻¹ (λ (r : Reached). Reaches a.n a.table.now a.limit r) c.refused_reach.ensures
+    (refused_reaches a.n a.table.now a.limit _
+    (call_refused a.n a.table.now a.limit _ (sym c.check_call.ensures ∙ ap checked c.in-Refused.is)))
+
+pub returns : goal.returns
+returns c =
+    let k = (goal.at.returns c).After-class_table in
+    let a = c.args in
+    let good = admitted (goal.at.returns c).In-Passed in
+    subst⁻¹ (λ (r : Reached). Reaches a.n a.table.now a.limit r) c.reach_counts.ensures
+    (counts_reach a.n a.table.now good.0 (front k _ ∙ counted k) a.limit good.1)

@@ -1,0 +1,175 @@
+-- `reporter::figures` meets its contract. The loop's invariant: the figures of the values up to X, and what its path reaches above the lowest
+-- variables.
+use Prim.Native.Nat.{ℕ, ◌+◌, ◌-◌, ◌^◌, ◌≤◌, ◌<◌}
+use mathlib.Core.Path.{◌≡◌, sym, ◌∙◌, ap, ap₂, subst}
+use mathlib.Core.List.{List}
+use native.Mathlib.Omega.{arith}
+use lib.Pow.{pow_mono}
+use lib.IntN.{ℤ, ◌+ℤ◌}
+use mir.Syntax.{w32, w64}
+use mir.Val.{SFits, of_z, to_z}
+use mir.Facts.{to_z-of_z, Fits-of_lt}
+use borrow.Author.Rules.{rules, sfits_of}
+use Rattle.numbers.specs.Answers.{accepted}
+use Rattle.numbers.specs.Extremes.{least_of, greatest_of}
+use Rattle.numbers.specs.Lists.{exact_sum}
+use Rattle.numbers.specs.Ranges.{lesser, greater}
+use Rattle.numbers.specs.Laws.Extremal.{leasts, greatests}
+use Rattle.diagram.specs.Walk.{walk_value}
+use Rattle.diagram.specs.Inner.Edges.{descend, Passing, PathReady}
+use Rattle.diagram.specs.Laws.Checks.{variables_range}
+use Rattle.diagram.specs.declared.Waypoint.{Waypoint}
+use Rattle.report.specs.Report.{values_from, Figures, figures_of, reported}
+use Rattle.report.specs.Laws.Answers.{part_order}
+use Rattle.report.specs.Laws.Reports.{values_count, extreme_one, extreme_more, sum_one, sum_more, part_sum_small}
+use Rattle.report.specs.Inner.Tops.{lowest_of, top_at}
+use Rattle.report.specs.Laws.Tops.{top_value, top_ready}
+use Rattle.report.proofs.figures.Invariants.{Gathered}
+use Rattle.report.proofs.figures.Goals as goal
+use Rattle.report.proofs.figures.Goals.{After-greater_of-greatest, Start}
+
+-- What is known of the call.
+module _ (c : Start) where
+  abbrev o : ℤ
+  o = to_z w32 (of_z w32 c.args.offset)
+
+  abbrev list : List ℤ
+  list = c.args.records.now
+
+  passing : Passing c.args.n o list
+  passing = subst (λ z. Passing c.args.n z list) (sym (to_z-of_z c.ranges.offset)) c.requires.0
+
+  order : (c.args.a ≤ c.args.b) × (c.args.b < 2 ^ c.args.n)
+  order = part_order c.args.n c.args.a c.args.b c.requires.1
+
+  most : c.args.b < 4096
+  most = let p = order.1 in let m = pow_mono {i = c.args.n} {j = 12} (variables_range c.args.n c.requires.0.variables).1 in omega arith
+
+  -- From what is reached at x the value at x is c.
+  ready : (top : Waypoint) (x : ℕ) → top ≡ top_at c.args.n o list x → PathReady list 0 (lowest_of c.args.n) top
+  ready top x e = subst (PathReady list 0 (lowest_of c.args.n)) (sym e) (top_ready c.args.n o list passing x)
+
+  valued : (top : Waypoint) (x : ℕ) → top ≡ top_at c.args.n o list x → (descend list 0 (lowest_of c.args.n) x top).value ≡ walk_value c.args.n o list x
+  valued top x e = ap (λ r. (descend list 0 (lowest_of c.args.n) x r).value) e ∙ top_value c.args.n o list x
+
+-- A value as the machine has it, in 32 and in 64 bits.
+module _ (z : ℤ) (h : SFits w32 z) where
+  wider : SFits w64 z
+  wider = let m = h.sfits in record { sfits = omega arith }
+
+  narrow : to_z w32 (of_z w32 z) ≡ z
+  narrow = to_z-of_z h
+
+  wide : to_z w64 (of_z w64 (to_z w32 (of_z w32 z))) ≡ z
+  wide = ap (λ y. to_z w64 (of_z w64 y)) narrow ∙ to_z-of_z wider
+
+pub top_at-top-requires : goal.top_at-top-requires
+top_at-top-requires c = passing c
+
+pub value_below-first-requires : goal.value_below-first-requires
+value_below-first-requires c = ready (goal.at.value_below-first-requires c).Start c.top_at-top.result c.args.a c.top_at-top.ensures
+
+pub overflow_cast-sum : goal.overflow_cast-sum
+overflow_cast-sum c = subst (SFits w64) (sym (narrow c.value_below-first.result (sfits_of c.value_below-first.type_inv))) (wider c.value_below-first.result (sfits_of c.value_below-first.type_inv))
+
+pub loop-x-init : goal.loop-x-init
+loop-x-init c =
+    let s = (goal.at.loop-x-init c).Start in
+    let a = s.args in
+    let fits : SFits w32 c.value_below-first.result = sfits_of c.value_below-first.type_inv in
+    let first : c.value_below-first.result ≡ walk_value a.n (o s) (list s) a.a = c.value_below-first.ensures ∙ valued s c.top_at-top.result a.a c.top_at-top.ensures in
+    record {
+      from = omega arith;
+      within = (order s).0;
+      reaches = c.top_at-top.ensures;
+      lows = narrow c.value_below-first.result fits ∙ first ∙ sym (extreme_one a.n (o s) (list s) a.a leasts);
+      highs = narrow c.value_below-first.result fits ∙ first ∙ sym (extreme_one a.n (o s) (list s) a.a greatests);
+      sums = wide c.value_below-first.result fits ∙ first ∙ sym (sum_one a.n (o s) (list s) a.a);
+    }
+
+pub next_top-top-requires : goal.next_top-top-requires
+next_top-top-requires c =
+    let s = (goal.at.next_top-top-requires c).Start in
+    (passing s, let l = c.loop-x-test.true in let p = (order s).1 in omega arith, c.loop-x.invariant.reaches)
+
+pub overflow_add-x : goal.overflow_add-x
+overflow_add-x c = let l = c.loop-x-test.true in let m = most (goal.at.overflow_add-x c).Start in Fits-of_lt (omega arith)
+
+pub value_below-value-requires : goal.value_below-value-requires
+value_below-value-requires c = ready (goal.at.value_below-value-requires c).Start c.next_top-top.result (c.loop-x.x + 1) c.next_top-top.ensures
+
+-- One turn: the value c, and the sum with it.
+module _ (c : After-greater_of-greatest) where
+  abbrev x : ℕ
+  x = c.loop-x.x
+
+  abbrev value : ℤ
+  value = c.value_below-value.result
+
+  fits : SFits w32 value
+  fits = sfits_of c.value_below-value.ok
+
+  is_value : value ≡ walk_value c.args.n (o (goal.at.overflow_cast-sum-in-loop-x c).Start) (list (goal.at.overflow_cast-sum-in-loop-x c).Start) (x + 1)
+  is_value = c.value_below-value.ensures ∙ valued (goal.at.overflow_cast-sum-in-loop-x c).Start c.next_top-top.result (x + 1) c.next_top-top.ensures
+
+  is_sum : to_z w64 c.loop-x.sum-bits +ℤ to_z w64 (of_z w64 (to_z w32 (of_z w32 value))) ≡ exact_sum (values_from c.args.n (o (goal.at.overflow_cast-sum-in-loop-x c).Start) (list (goal.at.overflow_cast-sum-in-loop-x c).Start) c.args.a (x + 1))
+  is_sum = ap₂ (λ s v. s +ℤ v) c.loop-x.invariant.sums (wide value fits ∙ is_value) ∙ sym (sum_more c.args.n (o (goal.at.overflow_cast-sum-in-loop-x c).Start) (list (goal.at.overflow_cast-sum-in-loop-x c).Start) c.args.a x c.loop-x.invariant.from)
+
+  sum_fits : SFits w64 (exact_sum (values_from c.args.n (o (goal.at.overflow_cast-sum-in-loop-x c).Start) (list (goal.at.overflow_cast-sum-in-loop-x c).Start) c.args.a (x + 1)))
+  sum_fits =
+      let l = c.loop-x-test.true in
+      let m = part_sum_small c.args.n (o (goal.at.overflow_cast-sum-in-loop-x c).Start) (list (goal.at.overflow_cast-sum-in-loop-x c).Start) (passing (goal.at.overflow_cast-sum-in-loop-x c).Start) c.args.a (x + 1) (let p = (order (goal.at.overflow_cast-sum-in-loop-x c).Start).1 in omega arith) in
+      record { sfits = omega arith }
+
+pub overflow_cast-sum-in-loop-x : goal.overflow_cast-sum-in-loop-x
+overflow_cast-sum-in-loop-x c = subst (SFits w64) (sym (narrow (value c) (fits c))) (wider (value c) (fits c))
+
+pub overflow_add-sum : goal.overflow_add-sum
+overflow_add-sum c = subst (SFits w64) (sym (is_sum c)) (sum_fits c)
+
+pub loop-x-smaller : goal.loop-x-smaller
+loop-x-smaller c = let l = c.loop-x-test.true in omega arith
+
+pub loop-x-preserved : goal.loop-x-preserved
+loop-x-preserved c =
+    let s = begun c in
+    let a = s.args in
+    let i = c.loop-x.invariant in
+    record {
+      from = let f = i.from in omega arith;
+      within = let l = c.loop-x-test.true in omega arith;
+      reaches = c.next_top-top.ensures;
+      lows =
+          to_z-of_z (sfits_of c.lesser_of-least.type_inv)
+          ∙ c.lesser_of-least.ensures
+          ∙ ap₂ lesser i.lows (narrow (value c) (fits c) ∙ is_value c)
+          ∙ sym (extreme_more a.n (o s) (list s) a.a leasts (x c) i.from);
+      highs =
+          to_z-of_z (sfits_of c.greater_of-greatest.type_inv)
+          ∙ c.greater_of-greatest.ensures
+          ∙ ap₂ greater i.highs (narrow (value c) (fits c) ∙ is_value c)
+          ∙ sym (extreme_more a.n (o s) (list s) a.a greatests (x c) i.from);
+      sums = ap (λ z. to_z w64 (of_z w64 z)) (is_sum c) ∙ to_z-of_z (sum_fits c);
+    }
+
+pub overflow_sub-result : goal.overflow_sub-result
+overflow_sub-result c = (order (goal.at.overflow_sub-result c).Start).0
+
+pub overflow_add-result : goal.overflow_add-result
+overflow_add-result c = let m = most (goal.at.overflow_add-result c).Start in Fits-of_lt (omega arith)
+
+pub returns : goal.returns
+unfolding reported figures_of
+returns c =
+    let s = (goal.at.returns c).Start in
+    let a = s.args in
+    let i = c.loop-x.invariant in
+    let last : c.loop-x.x ≡ a.b = (let l = c.loop-x-test.false in let w = i.within in omega arith) in
+    let values : values_from a.n (o s) (list s) a.a c.loop-x.x ≡ values_from a.n a.offset (list s) a.a a.b = ap₂ (λ z y. values_from a.n z (list s) a.a y) (to_z-of_z s.ranges.offset) last in
+    ap accepted
+    (figures_by
+    (let n = values_count a.n a.offset (list s) a.a a.b in let f = (order s).0 in omega arith)
+    (i.lows ∙ ap least_of values) (i.highs ∙ ap greatest_of values) (i.sums ∙ ap exact_sum values))
+  where
+    figures_by : {k m : ℕ} {l g t u v w : ℤ} → k ≡ m → l ≡ u → g ≡ v → t ≡ w → ◌≡◌ {A = Figures} (record { count = k; least = l; greatest = g; sum = t }) (record { count = m; least = u; greatest = v; sum = w })
+    figures_by a b c d i = record { count = a i; least = b i; greatest = c i; sum = d i }

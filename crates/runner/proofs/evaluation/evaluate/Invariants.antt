@@ -1,0 +1,10 @@
+use Rattle.image.specs.Inner.Evaluation.{card_read}
+use Rattle.image.specs.Run.{run_card}
+use Rattle.image.specs.Laws.Evaluating.{Evaluating}
+use Rattle.runner.proofs.evaluation.evaluate.Given as goal
+
+abbrev pub invariant-loop-progress : goal.invariant-loop-progress
+invariant-loop-progress l = Evaluating l.image l.x (run_card (card_read l.image) l.x) l.progress
+
+abbrev pub decreases-loop-progress : goal.decreases-loop-progress
+decreases-loop-progress l = l.progress.left

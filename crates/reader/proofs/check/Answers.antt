@@ -1,9 +1,6 @@
 -- `reader::reading::check` meets its contract. The loop's invariant: the steps from the place on decide.
-use Prim.Native.Nat.{◌-◌}
-use mathlib.Core.Path.{◌≡◌, sym, ◌∙◌, ap, subst}
+use mathlib.Core.Path.{◌≡◌, sym, ◌∙◌, subst}
 use native.Mathlib.Omega.{arith}
-use lib.ListN.{length}
-use borrow.Author.Rules.{rules}
 use Rattle.numbers.specs.Answers.{accepted}
 use Rattle.image.specs.declared.Command.{Command}
 use Rattle.image.specs.declared.Place.{Place}
@@ -13,18 +10,18 @@ use Rattle.image.specs.Reader.{step, stepped}
 use Rattle.image.specs.Laws.Reading.{Checking, done, checking_start, checking_refused, checking_last, checking_on, step_moves}
 use Rattle.image.specs.Laws.Steps.{step_accepted}
 use Rattle.reader.proofs.check.Goals as goal
-use Rattle.reader.proofs.check.Goals.{In-Read-2}
+use Rattle.reader.proofs.check.Goals.{In-Read}
 
 -- The command and the place that a step read.
-abbrev read : In-Read-2 → Command
-read c = c.command.given.0.0
+abbrev read : In-Read → Command
+read c = c.in-Read.command
 
-abbrev next : In-Read-2 → Place
-next c = c.command.given.0.1.0
+abbrev next : In-Read → Place
+next c = c.in-Read.next
 
-step_read : (c : In-Read-2) → step c.args.image.now c.loop-number.place ≡ accepted (read c, next c)
+step_read : (c : In-Read) → step c.args.image.now c.loop-number.place ≡ accepted (read c, next c)
 unfolding stepped
-step_read c = sym c.read_step.ensures ∙ ap stepped c.command-1.given.1
+step_read c = sym c.in-Read.ensures
 
 pub loop-number-init : goal.loop-number-init
 loop-number-init c = subst (Checking c.args.image.now) (sym c.start_place-place.ensures) (checking_start c.args.image.now)
@@ -37,21 +34,21 @@ unfolding checked done stepped
 returns-in-Refused c =
     let image = c.args.image.now in
     let l = c.loop-number in
-    sym (checking_refused image l.place c.number-1.given.0.0 l.invariant (sym c.read_step.ensures ∙ ap stepped c.number-1.given.1))
+    sym (checking_refused image l.place c.in-Refused.number l.invariant (sym c.in-Refused.ensures))
 
 pub returns-then-is_end : goal.returns-then-is_end
 unfolding checked done
 returns-then-is_end c =
     let image = c.args.image.now in
     let l = c.loop-number in
-    let came = (goal.at.returns-then-is_end c).In-Read-2 in
+    let came = (goal.at.returns-then-is_end c).In-Read in
     sym (checking_last image l.place (read came) (next came) l.invariant (step_read came) (sym c.is_end.ensures ∙ c.if-is_end.true))
 
 pub loop-number-smaller : goal.loop-number-smaller
 loop-number-smaller c =
     let image = c.args.image.now in
     let l = c.loop-number in
-    let came = (goal.at.loop-number-smaller c).In-Read-2 in
+    let came = (goal.at.loop-number-smaller c).In-Read in
     let moved = step_moves image l.place (read came) (next came) (step_accepted image l.place (read came) (next came) (step_read came)) in
     let m = moved.0 in
     let n = moved.1 in
@@ -62,5 +59,5 @@ unfolding AreBytes
 loop-number-preserved c =
     let image = c.args.image.now in
     let l = c.loop-number in
-    let came = (goal.at.loop-number-preserved c).In-Read-2 in
-    checking_on image l.place (read came) (next came) (λ i. (c.shared_slice_known-1.given i).ranges) l.invariant (step_read came) (sym c.is_end.ensures ∙ c.if-is_end.false)
+    let came = (goal.at.loop-number-preserved c).In-Read in
+    checking_on image l.place (read came) (next came) (λ i. (c.type_inv.image i).fits) l.invariant (step_read came) (sym c.is_end.ensures ∙ c.if-is_end.false)

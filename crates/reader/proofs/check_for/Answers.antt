@@ -1,6 +1,5 @@
 -- `reader::reading::check_for` meets its contract: another n is 13, else the image is read as ever.
 use mathlib.Core.Path.{sym, ◌∙◌, ap}
-use borrow.Author.Rules.{rules}
 use Rattle.numbers.specs.Inner.Checks.{checked}
 use Rattle.image.specs.Laws.Reading.{done}
 use Rattle.image.specs.Laws.ReadingFor.{other_refused, other_not}

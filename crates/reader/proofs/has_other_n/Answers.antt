@@ -1,7 +1,6 @@
 -- `reader::reading::has_other_n` meets its contract.
-use mathlib.Core.Path.{◌≡◌, sym, ◌∙◌}
+use mathlib.Core.Path.{sym, ◌∙◌}
 use lib.ListN.{length, get_or}
-use borrow.Author.Rules.{rules}
 use borrow.Author.Tests.{le-leb, lt-leb, eq-eqb, ne_eqb}
 use Rattle.image.specs.Inner.GivenN.{has_other_n}
 use Rattle.reader.proofs.has_other_n.Goals as goal

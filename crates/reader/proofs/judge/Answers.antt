@@ -1,6 +1,5 @@
 -- `reader::reading::judge` meets its contract.
 use mathlib.Core.Path.{sym, ◌∙◌}
-use borrow.Author.Rules.{rules}
 use Rattle.image.specs.Reader.{judged, stepped}
 use Rattle.reader.proofs.judge.Goals as goal
 

@@ -1,6 +1,6 @@
 -- `reporter::figures` meets its contract. The loop's invariant: the figures of the values up to X, and what its path reaches above the lowest
 -- variables.
-use Prim.Native.Nat.{ℕ, ◌+◌, ◌-◌, ◌^◌, ◌≤◌, ◌<◌}
+use Prim.Native.Nat.{ℕ, ◌+◌, ◌^◌, ◌≤◌, ◌<◌}
 use mathlib.Core.Path.{◌≡◌, sym, ◌∙◌, ap, ap₂, subst}
 use mathlib.Core.List.{List}
 use native.Mathlib.Omega.{arith}
@@ -9,7 +9,7 @@ use lib.IntN.{ℤ, ◌+ℤ◌}
 use mir.Syntax.{w32, w64}
 use mir.Val.{SFits, of_z, to_z}
 use mir.Facts.{to_z-of_z, Fits-of_lt}
-use borrow.Author.Rules.{rules, sfits_of}
+use borrow.Author.Rules.{sfits_of}
 use Rattle.numbers.specs.Answers.{accepted}
 use Rattle.numbers.specs.Extremes.{least_of, greatest_of}
 use Rattle.numbers.specs.Lists.{exact_sum}
@@ -24,7 +24,6 @@ use Rattle.report.specs.Laws.Answers.{part_order}
 use Rattle.report.specs.Laws.Reports.{values_count, extreme_one, extreme_more, sum_one, sum_more, part_sum_small}
 use Rattle.report.specs.Inner.Tops.{lowest_of, top_at}
 use Rattle.report.specs.Laws.Tops.{top_value, top_ready}
-use Rattle.report.proofs.figures.Invariants.{Gathered}
 use Rattle.report.proofs.figures.Goals as goal
 use Rattle.report.proofs.figures.Goals.{After-greater_of-greatest, Start}
 
@@ -107,7 +106,7 @@ module _ (c : After-greater_of-greatest) where
   value = c.value_below-value.result
 
   fits : SFits w32 value
-  fits = sfits_of c.value_below-value.ok
+  fits = sfits_of c.value_below-value.type_inv
 
   is_value : value ≡ walk_value c.args.n (o (goal.at.overflow_cast-sum-in-loop-x c).Start) (list (goal.at.overflow_cast-sum-in-loop-x c).Start) (x + 1)
   is_value = c.value_below-value.ensures ∙ valued (goal.at.overflow_cast-sum-in-loop-x c).Start c.next_top-top.result (x + 1) c.next_top-top.ensures
@@ -132,7 +131,7 @@ loop-x-smaller c = let l = c.loop-x-test.true in omega arith
 
 pub loop-x-preserved : goal.loop-x-preserved
 loop-x-preserved c =
-    let s = begun c in
+    let s = (goal.at.loop-x-preserved c).Start in
     let a = s.args in
     let i = c.loop-x.invariant in
     record {
@@ -140,16 +139,16 @@ loop-x-preserved c =
       within = let l = c.loop-x-test.true in omega arith;
       reaches = c.next_top-top.ensures;
       lows =
-          to_z-of_z (sfits_of c.lesser_of-least.type_inv)
+          to_z-of_z {w = w32} (sfits_of c.lesser_of-least.type_inv)
           ∙ c.lesser_of-least.ensures
           ∙ ap₂ lesser i.lows (narrow (value c) (fits c) ∙ is_value c)
           ∙ sym (extreme_more a.n (o s) (list s) a.a leasts (x c) i.from);
       highs =
-          to_z-of_z (sfits_of c.greater_of-greatest.type_inv)
+          to_z-of_z {w = w32} (sfits_of c.greater_of-greatest.type_inv)
           ∙ c.greater_of-greatest.ensures
           ∙ ap₂ greater i.highs (narrow (value c) (fits c) ∙ is_value c)
           ∙ sym (extreme_more a.n (o s) (list s) a.a greatests (x c) i.from);
-      sums = ap (λ z. to_z w64 (of_z w64 z)) (is_sum c) ∙ to_z-of_z (sum_fits c);
+      sums = ap (λ z. to_z w64 (of_z w64 z)) (is_sum c) ∙ to_z-of_z {w = w64} (sum_fits c);
     }
 
 pub overflow_sub-result : goal.overflow_sub-result

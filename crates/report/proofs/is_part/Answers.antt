@@ -1,7 +1,6 @@
 -- `reporter::is_part` meets its contract.
 use mathlib.Core.Path.{sym, ◌∙◌, ap}
 use lib.Dec.{ltb}
-use borrow.Author.Rules.{rules}
 use Rattle.report.specs.Laws.Answers.{part_turned, part_left}
 use Rattle.report.proofs.is_part.Goals as goal
 

@@ -1,7 +1,6 @@
 -- `runner::expand` meets its contract.
-use mathlib.Core.Path.{sym, ◌∙◌, ap}
+use mathlib.Core.Path.{sym}
 use lib.ListN.{length}
-use borrow.Author.Rules.{rules}
 use Rattle.numbers.specs.Inner.Checks.{checked}
 use Rattle.image.specs.Laws.Reading.{done}
 use Rattle.image.specs.Laws.Running.{check_refuses, check_accepts, expand_refused, expands_refused}
@@ -9,12 +8,12 @@ use Rattle.runner.proofs.expand.Goals as goal
 
 pub expand_accepted-requires : goal.expand_accepted-requires
 unfolding checked done
-expand_accepted-requires c = check_accepts c.args.image.now (sym c.check.ensures ∙ ap checked c.enum_told-1.given.1)
+expand_accepted-requires c = check_accepts c.args.image.now (sym c.in-Passed.ensures)
 
 pub returns-in-Refused : goal.returns-in-Refused
 unfolding checked done
 returns-in-Refused c =
     let a = c.args in
-    let number = c.number-1.given.0.0 in
-    let refuses = check_refuses a.image.now number (sym c.check.ensures ∙ ap checked c.number-1.given.1) in
+    let number = c.in-Refused.number in
+    let refuses = check_refuses a.image.now number (sym c.in-Refused.ensures) in
     expands_refused a.image.now a.table.now number (expand_refused a.image.now (length a.table.now) number refuses)

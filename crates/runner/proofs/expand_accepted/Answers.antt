@@ -3,7 +3,6 @@ use Prim.Native.Nat.{◌*◌, ◌%◌, ◌^◌}
 use mathlib.Core.Path.{◌≡◌}
 use native.Mathlib.Omega.{arith}
 use lib.ListN.{length}
-use borrow.Author.Rules.{rules}
 use Rattle.image.specs.Inner.Evaluation.{card_read}
 use Rattle.image.specs.Laws.Evaluating.{variables_narrow, variables_size}
 use Rattle.image.specs.Laws.Running.{expand_room, expands_refused, expands_table}
@@ -25,4 +24,4 @@ fill-requires c = (c.requires, (let t = c.if-table-variables.false in let e = si
 
 pub returns : goal.returns
 returns c =
-    expands_table c.args.image.now c.requires c.args.table.now c.fill.new.1.0 (let t = c.if-table-variables.false in let e = size (goal.at.returns c).After-variables in omega arith) c.fill.ensures
+    expands_table c.args.image.now c.requires c.args.table.now c.fill.new.table (let t = c.if-table-variables.false in let e = size (goal.at.returns c).After-variables in omega arith) c.fill.ensures

@@ -1,6 +1,5 @@
 -- `runner::run` meets its contract.
-use mathlib.Core.Path.{sym, ◌∙◌, ap}
-use borrow.Author.Rules.{rules}
+use mathlib.Core.Path.{sym}
 use Rattle.numbers.specs.Inner.Checks.{checked}
 use Rattle.image.specs.Run.{ran}
 use Rattle.image.specs.Laws.Reading.{done}
@@ -9,11 +8,11 @@ use Rattle.runner.proofs.run.Goals as goal
 
 pub run_accepted-requires : goal.run_accepted-requires
 unfolding checked done
-run_accepted-requires c = check_accepts c.args.image.now (sym c.check.ensures ∙ ap checked c.enum_told-1.given.1)
+run_accepted-requires c = check_accepts c.args.image.now (sym c.in-Passed.ensures)
 
 pub returns-in-Refused : goal.returns-in-Refused
 unfolding checked done ran
 returns-in-Refused c =
     let a = c.args in
-    let number = c.number-1.given.0.0 in
-    sym (run_refused a.image.now a.x number (check_refuses a.image.now number (sym c.check.ensures ∙ ap checked c.number-1.given.1)))
+    let number = c.in-Refused.number in
+    sym (run_refused a.image.now a.x number (check_refuses a.image.now number (sym c.in-Refused.ensures)))

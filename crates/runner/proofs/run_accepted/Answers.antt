@@ -25,6 +25,6 @@ returns-then-variables-x c = sym (run_late c.args.image.now c.requires c.args.x 
 pub returns : goal.returns
 unfolding ran result_of
 returns c =
-    ap (λ z. accepted (record { value = z; words = c.evaluate-evaluated.result.words })) (to_z-of_z {w = w32} (record { sfits = c.struct_told-1.given.0.1 }))
+    ap (λ z. accepted (record { value = z; words = c.evaluate-evaluated.result.words })) (to_z-of_z {w = w32} {z = c.evaluate-evaluated.result.value} (record { sfits = search rules }))
     ∙ ap accepted c.evaluate-evaluated.ensures
     ∙ sym (run_value c.args.image.now c.requires c.args.x (rw (size (goal.at.returns c).After-variables) at c.if-variables-x.false))

@@ -1,7 +1,7 @@
 -- `walker::walk` meets its contract: its checks, then what follows them.
+use mir.Syntax.{w32}
 use mathlib.Core.Path.{◌≡◌, sym, ◌∙◌, ap}
 use mir.Facts.{to_z-of_z}
-use borrow.Author.Rules.{rules}
 use Rattle.diagram.specs.Walk.{walk, walked}
 use Rattle.diagram.specs.Inner.Checks.{list_checks}
 use Rattle.numbers.specs.Inner.Checks.{checked}
@@ -11,22 +11,22 @@ use Rattle.walker.proofs.walk.Goals.{After-check_list}
 
 -- What the checks answered.
 answered : (c : After-check_list) → checked c.check_list.result ≡ list_checks c.args.n c.args.offset c.args.records.now
-answered c = c.check_list.ensures ∙ ap (λ z. list_checks c.args.n z c.args.records.now) (to_z-of_z c.ranges.offset)
+answered c = c.check_list.ensures ∙ ap (λ z. list_checks c.args.n z c.args.records.now) (to_z-of_z {w = w32} c.ranges.offset)
 
 pub walk_checked-requires : goal.walk_checked-requires
 unfolding checked
 walk_checked-requires c =
     let d = (goal.at.walk_checked-requires c).After-check_list in
     let a = d.args in
-    rw (to_z-of_z d.ranges.offset) (list_passed a.n a.offset a.records.now (sym (answered d) ∙ ap checked c.enum_told-1.given.1))
+    rw (to_z-of_z {w = w32} d.ranges.offset) (list_passed a.n a.offset a.records.now (sym (answered d) ∙ ap checked c.in-Passed.is))
 
 pub returns-in-Refused : goal.returns-in-Refused
 unfolding walk walked checked
 returns-in-Refused c =
     let d = (goal.at.returns-in-Refused c).After-check_list in
     let a = d.args in
-    sym (list_unfit a.n a.offset a.records.now _ c.number-1.given.0.0 (sym (answered d) ∙ ap checked c.number-1.given.1))
+    sym (list_unfit a.n a.offset a.records.now _ c.in-Refused.number (sym (answered d) ∙ ap checked c.in-Refused.is))
 
 pub returns-in-Passed : goal.returns-in-Passed
 returns-in-Passed c =
-    c.walk_checked.ensures ∙ ap (λ z. walk c.args.n z c.args.records.now c.args.x) (to_z-of_z c.ranges.offset)
+    c.walk_checked.ensures ∙ ap (λ z. walk c.args.n z c.args.records.now c.args.x) (to_z-of_z {w = w32} c.ranges.offset)

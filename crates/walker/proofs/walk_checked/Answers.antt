@@ -19,10 +19,10 @@ returns-then-x-power c =
     sym (walk_outside c.args.n c.args.offset c.args.records.now c.args.x c.requires (rw c.power.ensures at c.if-x-power.true))
 
 pub walk_value-requires : goal.walk_value-requires
-walk_value-requires c = rw (to_z-of_z c.ranges.offset) c.requires
+walk_value-requires c = rw (to_z-of_z {w = w32} c.ranges.offset) c.requires
 
 pub returns : goal.returns
 unfolding walked
 returns c =
-    ap accepted (to_z-of_z {w = w32} (sfits_of c.walk_value.type_inv) ∙ c.walk_value.ensures ∙ ap (λ z. walk_value c.args.n z c.args.records.now c.args.x) (to_z-of_z c.ranges.offset))
+    ap accepted (to_z-of_z {w = w32} (sfits_of c.walk_value.type_inv) ∙ c.walk_value.ensures ∙ ap (λ z. walk_value c.args.n z c.args.records.now c.args.x) (to_z-of_z {w = w32} c.ranges.offset))
     ∙ sym (walk_inside c.args.n c.args.offset c.args.records.now c.args.x c.requires (rw c.power.ensures at c.if-x-power.false))

@@ -1,10 +1,10 @@
 -- `walker::walk_value` meets its contract: the path from the root is followed to its end.
+use native.Mathlib.Omega.{arith}
 use mathlib.Core.Path.{◌≡◌, sym, ◌∙◌, ap, subst}
 use native.Mathlib.Nat.{zero-add}
 use mir.Syntax.{w32}
 use mir.Val.{of_z, to_z}
 use mir.Facts.{to_z-of_z}
-use borrow.Author.Rules.{rules}
 use Rattle.diagram.specs.Inner.Edges.{descend, root_of, PathReady}
 use Rattle.diagram.specs.Laws.Checks.{variables_range}
 use Rattle.diagram.specs.Laws.Edges.{descend_all, ready_root}
@@ -13,7 +13,7 @@ use Rattle.walker.proofs.walk_value.Goals.{After-root_of-root}
 
 -- Where the path starts.
 root_is : (c : After-root_of-root) → c.root_of-root.result ≡ root_of c.args.offset c.args.records.now
-root_is c = c.root_of-root.ensures ∙ ap (λ z. root_of z c.args.records.now) (to_z-of_z c.ranges.offset)
+root_is c = c.root_of-root.ensures ∙ ap (λ z. root_of z c.args.records.now) (to_z-of_z {w = w32} c.ranges.offset)
 
 pub walk_on-requires : goal.walk_on-requires
 walk_on-requires c =
@@ -24,7 +24,7 @@ pub returns : goal.returns
 returns c =
     let r = (goal.at.returns c).After-root_of-root in
     let a = r.args in
-    let told : to_z w32 (of_z w32 c.walk_on.result.value) ≡ c.walk_on.result.value = to_z-of_z {w = w32} (record { sfits = c.struct_told-1.given.0.1 }) in
+    let told : to_z w32 (of_z w32 c.walk_on.result.value) ≡ c.walk_on.result.value = to_z-of_z {w = w32} (record { sfits = omega arith }) in
     told
     ∙ ap (λ s. s.value) (c.walk_on.ensures ∙ ap (descend a.records.now 0 a.n a.x) (root_is r))
     ∙ descend_all a.n a.offset a.records.now a.x

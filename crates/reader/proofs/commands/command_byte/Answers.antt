@@ -1,22 +1,21 @@
 -- `command_reader::command_byte` meets its contract, kind by kind.
 use mathlib.Core.Path.{sym, ap}
-use borrow.Author.Rules.{rules}
 use Rattle.image.specs.Inner.Kinds.{due_of}
 use Rattle.image.specs.Reader.{due_byte}
 use Rattle.reader.proofs.commands.command_byte.Goals as goal
 
 pub returns-in-Table : goal.returns-in-Table
 unfolding due_byte due_of
-returns-in-Table c = sym (ap (λ k. due_byte (due_of k)) c.enum_told-1.given.1)
+returns-in-Table c = sym (ap (λ k. due_byte (due_of k)) c.in-Table.is)
 
 pub returns-in-Cell : goal.returns-in-Cell
 unfolding due_byte due_of
-returns-in-Cell c = sym (ap (λ k. due_byte (due_of k)) c.enum_told-in-Cell-1.given.1)
+returns-in-Cell c = sym (ap (λ k. due_byte (due_of k)) c.in-Cell.is)
 
 pub returns-in-Word : goal.returns-in-Word
 unfolding due_byte due_of
-returns-in-Word c = sym (ap (λ k. due_byte (due_of k)) c.enum_told-in-Word-1.given.1)
+returns-in-Word c = sym (ap (λ k. due_byte (due_of k)) c.in-Word.is)
 
 pub returns-in-End : goal.returns-in-End
 unfolding due_byte due_of
-returns-in-End c = sym (ap (λ k. due_byte (due_of k)) c.enum_told-in-End-1.given.1)
+returns-in-End c = sym (ap (λ k. due_byte (due_of k)) c.in-End.is)

@@ -2,17 +2,16 @@
 use Prim.Native.Nat.{◌+◌}
 use mathlib.Core.Path.{sym, ◌∙◌, ap}
 use mathlib.Core.Bool.{and-false}
-use mathlib.Core.Logic.{⊎_elim}
 use native.Mathlib.Omega.{arith}
 use lib.Dec.{leb}
 use mir.Facts.{Fits-of_lt}
 use borrow.Author.Tests.{lt-leb, ne_eqb, le-ltb}
-use borrow.Author.Rules.{rules}
 use Rattle.numbers.specs.Ranges.{most_variables, widest_address}
 use Rattle.numbers.specs.Laws.Widths.{rail_width_least}
 use Rattle.image.specs.Reader.{keeps_rules, most_classes}
 use Rattle.image.specs.Laws.Rules.{shape_decides}
 use Rattle.reader.proofs.operand_rules.cell_keeps.Goals as goal
+use Rattle.reader.proofs.operand_rules.cell_keeps.Goals.{then-group-place+else-outgoing-ne1, else-group-place}
 
 pub returns-then-group-lt1 : goal.returns-then-group-lt1
 unfolding keeps_rules
@@ -67,4 +66,4 @@ returns c =
     c.if-incoming-place.false
     c.if-outgoing-lt1.false
     c.if-outgoing-gt-MOST_CLASSES.false
-    (λ e. ⊎_elim (λ w. w.1.left) (λ w. absurd (w.left e)) c.if-group-place.branch))
+    (λ e. elim c.if-group-place.branch [ then-group-place+else-outgoing-ne1 w ↦ w.if-outgoing-ne1.false | else-group-place w ↦ absurd (w.if-group-place.false e) ]))

@@ -1,7 +1,6 @@
 -- `operand_rules::table_keeps` meets its contract.
 use mathlib.Core.Path.{sym, ◌∙◌, ap}
 use mir.Facts.{to_z-of_z}
-use borrow.Author.Rules.{rules}
 use Rattle.numbers.specs.Ranges.{is_value}
 use Rattle.reader.proofs.operand_rules.table_keeps.Goals as goal
 

@@ -1,7 +1,6 @@
 -- `operand_rules::word_keeps` meets its contract.
 use Prim.Native.Nat.{◌<◌}
 use mathlib.Core.Path.{sym, ◌∙◌, ap}
-use mathlib.Core.Logic.{⊎_elim}
 use native.Mathlib.Omega.{arith}
 use lib.Pow.{pow_pos}
 use lib.IntN.{pos}
@@ -9,7 +8,6 @@ use mir.Syntax.{w32}
 use mir.Val.{of_z}
 use mir.Facts.{to_z-of_z, sfits_lit}
 use borrow.Author.Tests.{le-ltb}
-use borrow.Author.Rules.{rules}
 use Rattle.numbers.specs.Ranges.{most_variables, is_weight}
 use Rattle.numbers.specs.Laws.Machine.{same_bits}
 use Rattle.numbers.specs.Laws.Pieces.{shifted_one}
@@ -18,6 +16,7 @@ use Rattle.image.specs.Reader.{keeps_rules}
 use Rattle.image.specs.Laws.Rules.{word_decides, word_ungrounded}
 use Rattle.image.specs.declared.Place.{Place}
 use Rattle.reader.proofs.operand_rules.word_keeps.Goals as goal
+use Rattle.reader.proofs.operand_rules.word_keeps.Goals.{then-place-eq0+else-weight-ne0, else-place-eq0}
 
 -- A group is narrower than a machine word.
 narrow : (p : Place) → WithinBounds p → p.group < 64
@@ -49,7 +48,7 @@ returns c =
     ∙ ap is_weight (to_z-of_z c.ranges.weight)
     ∙ sym
     (word_decides a.place a.class a.weight c.if-place-class.false
-    (λ e. ⊎_elim
-    (λ w. same_bits w32 a.weight (pos 0) c.ranges.weight (sfits_lit tt) w.1.left)
-    (λ w. absurd (w.left (rw size e)))
-    c.if-place-eq0.branch))
+    (λ e. elim c.if-place-eq0.branch [
+      | then-place-eq0+else-weight-ne0 w ↦ same_bits w32 a.weight (pos 0) c.ranges.weight (sfits_lit tt) w.if-weight-ne0.false
+      | else-place-eq0 w ↦ absurd (w.if-place-eq0.false (rw size e))
+    ]))

@@ -2,7 +2,6 @@
 use Prim.Native.Nat.{◌<◌}
 use native.Mathlib.Omega.{arith}
 use mir.Facts.{Fits-of_lt}
-use borrow.Author.Rules.{rules}
 use Rattle.numbers.specs.Ranges.{most_variables}
 use Rattle.numbers.specs.Laws.Pieces.{shifted_one}
 use Rattle.image.specs.Inner.Bounds.{CellFits, most_bits}

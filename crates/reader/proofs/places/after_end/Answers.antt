@@ -8,5 +8,4 @@ use Rattle.reader.proofs.places.after_end.Goals as goal
 pub returns : goal.returns
 unfolding place_after
 returns c =
-    let told = c.struct_told-1.given in
-    rw (to_z-of_z {w = w32} (record { sfits = told.1.1.1.1.1.1.1.0.1 }), to_z-of_z {w = w32} (record { sfits = told.1.1.1.1.1.1.1.1.0.1 }))
+    rw (to_z-of_z {w = w32} {z = c.args.place.least} (record { sfits = search rules }), to_z-of_z {w = w32} {z = c.args.place.greatest} (record { sfits = search rules }))

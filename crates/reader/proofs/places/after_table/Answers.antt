@@ -1,6 +1,5 @@
 -- `places::after_table` meets its contract.
 use mathlib.Core.Path.{refl}
-use borrow.Author.Rules.{rules}
 use Rattle.image.specs.Reader.{place_after}
 use Rattle.reader.proofs.places.after_table.Goals as goal
 

@@ -17,7 +17,6 @@ overflow_sub-result c = words_due c.args.place c.requires.is_due.allowed
 pub returns : goal.returns
 unfolding place_after
 returns c =
-    let before-it = c.struct_told-1.given in
-    let is-least : to_z w32 (of_z w32 c.lesser_of.result) ≡ lesser c.args.place.least c.args.weight = to_z-of_z {w = w32} (record { sfits = c.lesser_of.type_inv }) ∙ c.lesser_of.ensures ∙ ap₂ lesser (to_z-of_z {w = w32} (record { sfits = before-it.1.1.1.1.1.1.1.0.1 })) (to_z-of_z c.ranges.weight) in
-    let is-greatest : to_z w32 (of_z w32 c.greater_of.result) ≡ greater c.args.place.greatest c.args.weight = to_z-of_z {w = w32} (record { sfits = c.greater_of.type_inv }) ∙ c.greater_of.ensures ∙ ap₂ greater (to_z-of_z {w = w32} (record { sfits = before-it.1.1.1.1.1.1.1.1.0.1 })) (to_z-of_z c.ranges.weight) in
+    let is-least : to_z w32 (of_z w32 c.lesser_of.result) ≡ lesser c.args.place.least c.args.weight = to_z-of_z {w = w32} (record { sfits = c.lesser_of.type_inv }) ∙ c.lesser_of.ensures ∙ ap₂ lesser (to_z-of_z {w = w32} {z = c.args.place.least} (record { sfits = search rules })) (to_z-of_z c.ranges.weight) in
+    let is-greatest : to_z w32 (of_z w32 c.greater_of.result) ≡ greater c.args.place.greatest c.args.weight = to_z-of_z {w = w32} (record { sfits = c.greater_of.type_inv }) ∙ c.greater_of.ensures ∙ ap₂ greater (to_z-of_z {w = w32} {z = c.args.place.greatest} (record { sfits = search rules })) (to_z-of_z c.ranges.weight) in
     rw (is-least, is-greatest)

@@ -1,6 +1,5 @@
 -- `rules::ends_well` meets its contract.
 use mathlib.Core.Path.{sym, ◌∙◌}
-use borrow.Author.Rules.{rules}
 use Rattle.image.specs.Laws.Due.{ends_well_last, ends_well_before}
 use Rattle.reader.proofs.rules.ends_well.Goals as goal
 

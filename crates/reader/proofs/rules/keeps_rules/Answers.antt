@@ -13,23 +13,23 @@ pub returns-in-Table : goal.returns-in-Table
 unfolding keeps_rules
 returns-in-Table c =
     let a = c.args in
-    let n = c.command-1.given.0.0 in
+    let n = c.in-Table.n in
     c.table_keeps.ensures
-    ∙ ap (λ z. is_variables n && is_value z) (to_z-of_z {w = w32} (record { sfits = c.known_told-1.given.1.0.1 }))
-    ∙ sym (ap (keeps_rules a.place) c.command-1.given.1)
+    ∙ ap (λ z. is_variables n && is_value z) (to_z-of_z {w = w32} (record { sfits = search rules }))
+    ∙ sym (ap (keeps_rules a.place) c.in-Table.is)
 
 pub returns-in-Cell : goal.returns-in-Cell
 unfolding keeps_rules
-returns-in-Cell c = c.cell_keeps.ensures ∙ sym (ap (keeps_rules c.args.place) c.command-in-Cell-1.given.1)
+returns-in-Cell c = c.cell_keeps.ensures ∙ sym (ap (keeps_rules c.args.place) c.in-Cell.is)
 
 pub returns-in-Word : goal.returns-in-Word
 returns-in-Word c =
     let a = c.args in
-    let class = c.command-in-Word-1.given.0.0 in
+    let class = c.in-Word.class in
     c.word_keeps.ensures
-    ∙ ap (λ z. keeps_rules a.place (Word class z)) (to_z-of_z {w = w32} (record { sfits = c.known_told-in-Word-1.given.1.0.1 }))
-    ∙ sym (ap (keeps_rules a.place) c.command-in-Word-1.given.1)
+    ∙ ap (λ z. keeps_rules a.place (Word class z)) (to_z-of_z {w = w32} (record { sfits = search rules }))
+    ∙ sym (ap (keeps_rules a.place) c.in-Word.is)
 
 pub returns-in-End : goal.returns-in-End
 unfolding keeps_rules
-returns-in-End c = sym (ap (keeps_rules c.args.place) c.command-in-End-1.given.1)
+returns-in-End c = sym (ap (keeps_rules c.args.place) c.in-End.is)

@@ -18,8 +18,7 @@ pub returns : goal.returns
 unfolding width_is_least
 returns c =
     let place = c.args.place in
-    let told = c.struct_told-1.given in
     rw (le-ltb 0 place.words c.if-place-gt0.false)
     (ap (eqb place.width)
     (c.weight_width.ensures
-    ∙ ap₂ (λ a b. weight_width (a ∷ b ∷ [])) (to_z-of_z {w = w32} (record { sfits = told.1.1.1.1.1.1.1.0.1 })) (to_z-of_z {w = w32} (record { sfits = told.1.1.1.1.1.1.1.1.0.1 }))))
+    ∙ ap₂ (λ a b. weight_width (a ∷ b ∷ [])) (to_z-of_z {w = w32} {z = place.least} (record { sfits = search rules })) (to_z-of_z {w = w32} {z = place.greatest} (record { sfits = search rules }))))

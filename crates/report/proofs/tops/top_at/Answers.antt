@@ -3,7 +3,6 @@ use Prim.Native.Nat.{◌-◌}
 use mathlib.Core.Path.{◌≡◌, sym, ◌∙◌, ap, ap₂, subst}
 use native.Mathlib.Omega.{arith}
 use mir.Facts.{to_z-of_z}
-use borrow.Author.Rules.{rules}
 use Rattle.diagram.specs.Inner.Edges.{descend, root_of, PathReady}
 use Rattle.report.specs.Inner.Tops.{lowest_of, top_at}
 use Rattle.report.specs.Laws.Tops.{lowest_within, root_ready}

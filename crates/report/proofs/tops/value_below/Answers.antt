@@ -1,9 +1,9 @@
 -- `tops::value_below` meets its contract.
 use mathlib.Core.Path.{◌≡◌, sym, ◌∙◌, ap, subst}
+use native.Mathlib.Omega.{arith}
 use mir.Syntax.{w32}
 use mir.Val.{of_z, to_z}
 use mir.Facts.{to_z-of_z}
-use borrow.Author.Rules.{rules}
 use Rattle.diagram.specs.Inner.Edges.{descend, PathReady}
 use Rattle.report.proofs.tops.value_below.Goals as goal
 
@@ -13,5 +13,5 @@ walk_on-requires c = subst (λ low. PathReady c.args.records.now 0 low c.args.to
 pub returns : goal.returns
 returns c =
     let a = c.args in
-    let told : to_z w32 (of_z w32 c.walk_on.result.value) ≡ c.walk_on.result.value = to_z-of_z {w = w32} (record { sfits = c.struct_told-1.given.0.1 }) in
+    let told : to_z w32 (of_z w32 c.walk_on.result.value) ≡ c.walk_on.result.value = to_z-of_z {w = w32} (record { sfits = omega arith }) in
     told ∙ ap (λ r. r.value) (c.walk_on.ensures ∙ ap (λ low. descend a.records.now 0 low a.x a.top) c.lowest.ensures)

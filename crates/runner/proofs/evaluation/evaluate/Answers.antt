@@ -2,6 +2,7 @@
 use Prim.Native.Nat.{◌<◌}
 use mathlib.Core.Path.{sym, ◌∙◌, ap, subst}
 use native.Mathlib.Omega.{arith}
+use borrow.Author.Rules.{rules}
 use mir.Syntax.{w32}
 use mir.Facts.{to_z-of_z}
 use Rattle.image.specs.Inner.Evaluation.{card_read, result_of, result_so_far}
@@ -41,5 +42,5 @@ returns c =
     let a = c.args in
     let l = c.loop-progress in
     let h = c.loop-progress-test.false in
-    ap (λ z. record { value = z; words = l.progress.words }) (to_z-of_z {w = w32} (record { sfits = c.struct_told-1.given.1.1.1.0.1 }))
+    ap (λ z. record { value = z; words = l.progress.words }) (to_z-of_z {w = w32} {z = l.progress.value} (record { sfits = search rules }))
     ∙ result_reached a.image.now a.x (run_card (card_read a.image.now) a.x) l.progress l.invariant (omega arith)

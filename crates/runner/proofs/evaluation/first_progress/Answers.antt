@@ -1,7 +1,6 @@
 -- `evaluation::first_progress` meets its contract.
 use mir.Facts.{to_z-of_z}
 use mir.Syntax.{w32}
-use borrow.Author.Rules.{rules}
 use Rattle.image.specs.Inner.Evaluation.{first_progress}
 use Rattle.runner.proofs.evaluation.first_progress.Goals as goal
 

@@ -2,7 +2,6 @@
 use Prim.Native.Nat.{◌-◌}
 use native.Mathlib.Omega.{arith}
 use lib.Pow.{pow_pos}
-use borrow.Author.Rules.{rules}
 use Rattle.numbers.specs.Laws.Pieces.{shifted_one}
 use Rattle.image.specs.Run.{group_value}
 use Rattle.runner.proofs.evaluation.group_value.Goals as goal

@@ -1,6 +1,6 @@
 -- `expansion::fill` meets its contract. The loop's invariant: the rows hold the class and the value of each block of the cut reached.
 --
-use Prim.Native.Nat.{ℕ, ◌+◌, ◌-◌, ◌*◌, ◌%◌, ◌^◌, ◌≤◌, ◌<◌}
+use Prim.Native.Nat.{ℕ, ◌+◌, ◌*◌, ◌%◌, ◌^◌, ◌≤◌, ◌<◌}
 use mathlib.Core.Path.{◌≡◌, refl, sym, ◌∙◌, ap}
 use mathlib.Core.List.{List}
 use native.Mathlib.Omega.{arith}
@@ -97,7 +97,7 @@ overflow_mul-count c =
     rw (size c) (Fits-of_lt (let f = blocks_fit (image d) (at d) (left d) (count d) (row d) (values d) (inv d) (some d) in let r = (inv d).room in let e = (inv d).row in omega arith))
 
 pub overflow_add-at-in-loop-left : goal.overflow_add-at-in-loop-left
-overflow_add-at-in-loop-left c = Fits-of_lt (let r = room (goal.at.overflow_add-at-in-loop-left c).In-loop-left in let g = c.good.0.1 in omega arith)
+overflow_add-at-in-loop-left c = Fits-of_lt (let r = room (goal.at.overflow_add-at-in-loop-left c).In-loop-left in let g = c.well_formed.0.1 in omega arith)
 
 pub spread-requires : goal.spread-requires
 unfolding first_word
@@ -117,7 +117,7 @@ loop-left-preserved c =
     let d = (goal.at.loop-left-preserved c).In-loop-left in
     let e = (goal.at.loop-left-preserved c).After-read_one-group in
     let spread = c.spread in
-    rw (size e, is_group e, c.next_place-at.ensures) (blocks_passed (image d) (at d) (left d) (count d) (row d) (values d) (inv d) (some d) _ _ (rw (sym (size e), sym (is_group e)) spread.ensures.0) (rw (sym (size e), sym (is_group e)) spread.ensures.1))
+    rw (size e, is_group e, c.next_place-at.ensures) (blocks_passed (image d) (at d) (left d) (count d) (row d) (values d) (inv d) (some d) _ _ (rw (sym (size e), sym (is_group e)) spread.ensures.classes_after) (rw (sym (size e), sym (is_group e)) spread.ensures.table_after))
 
 pub shape_of-table : goal.shape_of-table
 shape_of-table c = c.loop-left.invariant.full ∙ sym c.requires.1

@@ -5,6 +5,7 @@ use mathlib.Core.List.{List}
 use native.Mathlib.Nat.{le-mul_of_pos_right}
 use native.Mathlib.Omega.{arith}
 use lib.ListN.{length, get_or}
+use borrow.Author.Rules.{rules}
 use mir.Syntax.{w32}
 use mir.Val.{SFits, to_z, of_z}
 use mir.Facts.{Fits-of_lt, to_z-of_z}
@@ -136,7 +137,7 @@ total : (c : After-read_signed)
 total c =
     let d = (goal.at.overflow_add-value c).In-loop-y in
     ap₂ ◌+ℤ◌
-    (to_z-of_z {w = w32} (record { sfits = c.value-1.given }) ∙ ap (λ n. get_or (values d) (last d / n) (pos 0)) (size (goal.at.overflow_add-value c).Start))
+    (to_z-of_z {w = w32} {z = get_or (values d) (last d / ((1 * 2 ^ c.args.group) % 18446744073709551616)) (pos 0)} (record { sfits = search rules }) ∙ ap (λ n. get_or (values d) (last d / n) (pos 0)) (size (goal.at.overflow_add-value c).Start))
     (to_z-of_z {w = w32} (record { sfits = c.read_signed.type_inv }) ∙ c.read_signed.ensures ∙ ap (λ n. signed_at (image d) (n + 3)) (placed (goal.at.overflow_add-value c).After-word_place-word))
     ∙ value_here (image d) c.args.words c.args.group c.args.count (classes d) (table d) c.requires (row d) (values d) (y d) (inv d) (some d)
 
@@ -180,4 +181,5 @@ shape_of-table c =
 pub returns : goal.returns
 returns c =
     let l = c.loop-y in
-    spread_all c.args.image.now c.args.words c.args.group c.args.count c.args.classes.now c.args.table.now c.requires l.classes l.table l.y l.invariant (let t = c.loop-y-test.false in omega arith)
+    let all = spread_all c.args.image.now c.args.words c.args.group c.args.count c.args.classes.now c.args.table.now c.requires l.classes l.table l.y l.invariant (let t = c.loop-y-test.false in omega arith) in
+    record { classes_after = all.0; table_after = all.1 }

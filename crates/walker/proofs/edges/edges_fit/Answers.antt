@@ -5,7 +5,7 @@ use mathlib.Core.Path.{◌≡◌, sym, ◌∙◌, ap}
 use native.Mathlib.Omega.{arith}
 use lib.IntN.{pos}
 use mir.Facts.{to_z-of_z}
-use borrow.Author.Rules.{rules, sfits_of}
+use borrow.Author.Rules.{sfits_of}
 use Rattle.numbers.specs.Ranges.{within, is_weight}
 use Rattle.diagram.specs.Records.{record_size}
 use Rattle.diagram.specs.Walk.{child_fits, variable_at, low_at, high_at, weight_at}
@@ -67,5 +67,5 @@ unfolding weight_at
 returns c =
     let a = c.args in
     c.is_weight.ensures
-    ∙ ap is_weight (to_z-of_z (sfits_of c.number_at-4.type_inv) ∙ c.number_at-4.ensures)
+    ∙ ap is_weight (to_z-of_z {w = w32} (sfits_of c.number_at-4.type_inv) ∙ c.number_at-4.ensures)
     ∙ sym (weight_left a.n a.records.now a.k (sym (variable (goal.at.returns c).After-is_below) ∙ c.if-not-is_below.false) (sym (low (goal.at.returns c).After-child_fits) ∙ c.if-not-child_fits.false) (sym (high (goal.at.returns c).After-child_fits-2) ∙ c.if-not-child_fits-2.false))

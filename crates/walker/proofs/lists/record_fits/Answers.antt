@@ -27,7 +27,7 @@ range_follows-requires c =
     let here = c.requires.1 in
     let one = here.from_one in
     let small = range_small a.n a.records.now a.k c.requires.2 (let l = here.among in omega arith) (variables_range a.n c.requires.0).1 (nat_abs (high_at a.records.now a.k)) (let l = (child_node a.records.now a.k (high_at a.records.now a.k) p.high).1 in omega arith) in
-    record { here = here; low = p.low; high = p.high; weight = p.weight; least-small = small.0; greatest-small = small.1 }
+    record { here = here; low = p.low; high = p.high; weight = p.weight; least_small = small.0; greatest_small = small.1 }
 
 pub returns : goal.returns
 returns c =
@@ -35,7 +35,3 @@ returns c =
     c.range_follows.ensures
     ∙ range_judged a.n a.records.now a.k c.requires.2 c.requires.1.from_one (fits (goal.at.returns c).Else-not-edges_fit) (variables_range a.n c.requires.0).0
     ∙ sym (range_left a.n a.records.now a.k (fits (goal.at.returns c).Else-not-edges_fit))
-
-pub record-fits-spec : {M : Type 1} → statement M
-
-record-fits-spec = tie.close (tie.spec edges_fit-requires returns-then-not-edges_fit range_follows-requires returns)

@@ -11,7 +11,6 @@ use Rattle.diagram.specs.Records.{record_size}
 use Rattle.diagram.specs.Walk.{record_fits, record_count}
 use Rattle.diagram.specs.Inner.Edges.{EarlierPass}
 use Rattle.diagram.specs.Laws.Checks.{passes_here, fails_here, none_left}
-use Rattle.walker.proofs.lists.records_fit.Invariants.{Deciding}
 use Rattle.walker.proofs.lists.records_fit.Goals as goal
 
 -- One record more passed.
@@ -34,11 +33,10 @@ loop-k-init c = (
   },
 )
 
-record-fits-requires : goal.Need_record_fits_requires
-
-record-fits-requires c κs =
-    let i = c.before.loop.invariant in
-    (c.before.before.requires, record { from_one = i.1.from_one; among = let e = i.0 in let l = c.loop_test.true in omega arith }, i.1.earlier)
+pub record_fits-requires : goal.record_fits-requires
+record_fits-requires c =
+    let i = c.loop-k.invariant in
+    (c.requires, record { from_one = i.1.from_one; among = let e = i.0 in let l = c.loop-k-test.true in omega arith }, i.1.earlier)
 
 pub returns-then-not-record_fits : goal.returns-then-not-record_fits
 returns-then-not-record_fits c =

@@ -6,7 +6,7 @@ use lib.IntN.{pos, nat_abs}
 use mir.Syntax.{w32}
 use mir.Val.{of_z}
 use mir.Facts.{to_z-of_z}
-use borrow.Author.Rules.{rules, sfits_of}
+use borrow.Author.Rules.{sfits_of}
 use borrow.Author.Tests.{eq-eqb, ne_eqb}
 use Rattle.numbers.specs.Laws.Machine.{same_bits}
 use Rattle.diagram.specs.Records.{record_size}
@@ -42,8 +42,9 @@ returns-then-number_at-i c =
     sym (edge_later a.records.now a.i a.k a.x (one (goal.at.returns-then-number_at-i c).Else-k-eq0) (λ e. c.if-number_at-i.true (ap (of_z w32) (is_variable (goal.at.returns-then-number_at-i c).After-number_at ∙ e))))
 
 own : (c : Else-number_at-i) → variable_at c.args.records.now c.args.k ≡ pos c.args.i
+unfolding variable_at
 own c =
-    sym (is_variable (goal.at.overflow_shr-x c).After-number_at)
+    sym c.number_at.ensures
     ∙ same_bits w32 c.number_at.result (pos c.args.i) (sfits_of c.number_at.type_inv) (record { sfits = omega arith }) c.if-number_at-i.false
 
 pub number_at-requires-then-x-i-eq1 : goal.number_at-requires-then-x-i-eq1
@@ -59,7 +60,7 @@ unfolding high_at
 overflow_cast-result c =
     let e = (goal.at.overflow_cast-result c).Else-k-eq0 in
     let a = e.args in
-    rw (to_z-of_z (sfits_of c.number_at-then-x-i-eq1-2.type_inv))
+    rw (to_z-of_z {w = w32} (sfits_of c.number_at-then-x-i-eq1-2.type_inv))
     (cast_natural c.number_at-then-x-i-eq1-2.result (sfits_of c.number_at-then-x-i-eq1-2.type_inv)
     (rw c.number_at-then-x-i-eq1-2.ensures (child_node a.records.now a.k (high_at a.records.now a.k) (e.requires.1.high (one e))).0))
 
@@ -68,7 +69,7 @@ unfolding high_at weight_at bit_set
 returns-then-x-i-eq1 c =
     let e = (goal.at.returns-then-x-i-eq1 c).Else-k-eq0 in
     let a = e.args in
-    ap₂ (λ w k. record { weight = w; node = nat_abs k }) (to_z-of_z (sfits_of c.number_at-then-x-i-eq1.type_inv) ∙ c.number_at-then-x-i-eq1.ensures) (to_z-of_z (sfits_of c.number_at-then-x-i-eq1-2.type_inv) ∙ c.number_at-then-x-i-eq1-2.ensures)
+    ap₂ (λ w k. record { weight = w; node = nat_abs k }) (to_z-of_z {w = w32} (sfits_of c.number_at-then-x-i-eq1.type_inv) ∙ c.number_at-then-x-i-eq1.ensures) (to_z-of_z {w = w32} (sfits_of c.number_at-then-x-i-eq1-2.type_inv) ∙ c.number_at-then-x-i-eq1-2.ensures)
     ∙ sym (edge_high a.records.now a.i a.k a.x (one e) (own (goal.at.returns-then-x-i-eq1 c).Else-number_at-i) (eq-eqb (a.x / 2 ^ a.i % 2) 1 c.if-x-i-eq1.true))
 
 pub number_at-requires-2 : goal.number_at-requires-2
@@ -80,7 +81,7 @@ unfolding low_at
 overflow_cast-result-2 c =
     let e = (goal.at.overflow_cast-result-2 c).Else-k-eq0 in
     let a = e.args in
-    rw (to_z-of_z (sfits_of c.number_at-2.type_inv))
+    rw (to_z-of_z {w = w32} (sfits_of c.number_at-2.type_inv))
     (cast_natural c.number_at-2.result (sfits_of c.number_at-2.type_inv)
     (rw c.number_at-2.ensures (child_node a.records.now a.k (low_at a.records.now a.k) (e.requires.1.low (one e))).0))
 
@@ -89,5 +90,5 @@ unfolding low_at bit_set
 returns c =
     let e = (goal.at.returns c).Else-k-eq0 in
     let a = e.args in
-    ap (λ k. record { weight = pos 0; node = nat_abs k }) (to_z-of_z (sfits_of c.number_at-2.type_inv) ∙ c.number_at-2.ensures)
+    ap (λ k. record { weight = pos 0; node = nat_abs k }) (to_z-of_z {w = w32} (sfits_of c.number_at-2.type_inv) ∙ c.number_at-2.ensures)
     ∙ sym (edge_low a.records.now a.i a.k a.x (one e) (own (goal.at.returns c).Else-number_at-i) (ne_eqb (a.x / 2 ^ a.i % 2) 1 c.if-x-i-eq1.false))

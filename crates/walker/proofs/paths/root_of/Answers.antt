@@ -1,4 +1,5 @@
 -- `paths::root_of` meets its contract.
+use mir.Syntax.{w32}
 use Prim.Native.Nat.{◌/◌}
 use mathlib.Core.Path.{ap}
 use lib.ListN.{length}
@@ -10,4 +11,4 @@ use Rattle.walker.proofs.paths.root_of.Goals as goal
 
 pub returns : goal.returns
 unfolding root_of record_count record_size
-returns c = ap (λ z. record { value = z; node = length c.args.records.now / record_size }) (to_z-of_z c.ranges.offset)
+returns c = ap (λ z. record { value = z; node = length c.args.records.now / record_size }) (to_z-of_z {w = w32} c.ranges.offset)

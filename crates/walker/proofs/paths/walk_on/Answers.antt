@@ -1,9 +1,10 @@
 -- `paths::walk_on` meets its contract. The loop's invariant: what is left to read leads to the same end.
-use Prim.Native.Nat.{ℕ, suc, ◌+◌, ◌-◌}
+use Prim.Native.Nat.{ℕ, ◌<◌, suc, ◌+◌, ◌-◌}
 use mathlib.Core.Path.{◌≡◌, refl, sym, ◌∙◌, ap, ap₂, subst}
 use mathlib.Core.List.{List}
 use native.Mathlib.Omega.{arith}
 use lib.IntN.{ℤ, ◌+ℤ◌}
+use lib.Signed.{mag}
 use mir.Syntax.{w32}
 use mir.Val.{SFits, of_z, to_z}
 use mir.Facts.{to_z-of_z, Fits-of_lt}
@@ -11,16 +12,15 @@ use borrow.Author.Rules.{sfits_of}
 use Rattle.diagram.specs.Inner.Edges.{edge_at, descend, PathReady}
 use Rattle.diagram.specs.declared.Waypoint.{Waypoint}
 use Rattle.diagram.specs.Laws.Edges.{further, descend_more, descend_none, ready_further}
-use Rattle.walker.proofs.paths.walk_on.Invariants.{OnTheWay}
 use Rattle.walker.proofs.paths.walk_on.Goals as goal
-use Rattle.walker.proofs.paths.walk_on.Goals.{After-struct_told-1, After-struct_told-in-loop-left-1}
+use Rattle.walker.proofs.paths.walk_on.Goals.{After-edge_at-edge}
 
 -- The value that the path starts with.
-entered : (c : After-struct_told-1) → to_z w32 (of_z w32 c.args.reached.value) ≡ c.args.reached.value
-entered c = to_z-of_z {w = w32} (record { sfits = c.struct_told-1.given.0.1 })
+entered : (value : ℤ) → mag value < 2147483648 → to_z w32 (of_z w32 value) ≡ value
+entered value fits = to_z-of_z {w = w32} (sfits_of fits)
 
 pub loop-left-init : goal.loop-left-init
-loop-left-init c = record { ready = subst (λ z. PathReady c.args.records.now c.args.low c.args.count (record { value = z; node = c.args.reached.node })) (sym (entered c)) c.requires; leads = refl }
+loop-left-init c = record { ready = subst (λ z. PathReady c.args.records.now c.args.low c.args.count (record { value = z; node = c.args.reached.node })) (sym (entered c.args.reached.value (omega arith))) c.requires; leads = refl }
 
 pub overflow_sub-left : goal.overflow_sub-left
 overflow_sub-left c = c.loop-left-test.true
@@ -34,7 +34,7 @@ edge_at-edge-requires c =
     (let h = r.height in let l = c.loop-left-test.true in omega arith, r.nodes c.loop-left.node r.known)
 
 -- One variable further, and what was added.
-module _ (c : After-struct_told-in-loop-left-1) where
+module _ (c : After-edge_at-edge) (fits : mag c.edge_at-edge.result.weight < 2147483648) where
   abbrev at : Waypoint
   at = record { value = to_z w32 c.loop-left.value-bits; node = c.loop-left.node }
 
@@ -55,7 +55,7 @@ module _ (c : After-struct_told-in-loop-left-1) where
 
   weight_is : to_z w32 (of_z w32 c.edge_at-edge.result.weight) ≡ (edge_at list (low + left) at.node c.args.x).weight
   weight_is =
-      let told : to_z w32 (of_z w32 c.edge_at-edge.result.weight) ≡ c.edge_at-edge.result.weight = to_z-of_z {w = w32} (record { sfits = c.struct_told-in-loop-left-1.given.0.1 }) in
+      let told : to_z w32 (of_z w32 c.edge_at-edge.result.weight) ≡ c.edge_at-edge.result.weight = to_z-of_z {w = w32} (sfits_of fits) in
       told ∙ ap (λ e. e.weight) edge_is
 
   -- What is reached then.
@@ -69,7 +69,10 @@ module _ (c : After-struct_told-in-loop-left-1) where
   sum_fits = let b = next.bounded in sfits_of (omega arith)
 
 pub overflow_add-value : goal.overflow_add-value
-overflow_add-value c = subst (SFits w32) (sym (sum_is c)) (sum_fits c)
+overflow_add-value c =
+    let e = (goal.at.overflow_add-value c).After-edge_at-edge in
+    let fits : mag c.edge_at-edge.result.weight < 2147483648 = omega arith in
+    subst (SFits w32) (sym (sum_is e fits)) (sum_fits e fits)
 
 pub loop-left-smaller : goal.loop-left-smaller
 loop-left-smaller c = let l = c.loop-left-test.true in omega arith
@@ -77,14 +80,16 @@ loop-left-smaller c = let l = c.loop-left-test.true in omega arith
 pub loop-left-preserved : goal.loop-left-preserved
 loop-left-preserved c =
     let x = c.args.x in
-    let reached : ◌≡◌ {A = Waypoint} (record { value = to_z w32 (of_z w32 (to_z w32 c.loop-left.value-bits +ℤ to_z w32 (of_z w32 c.edge_at-edge.result.weight))); node = c.edge_at-edge.result.node }) (further (list c) (low c + left c) x (at c))
-    = ap₂ (λ v k. record { value = v; node = k }) (ap (λ z. to_z w32 (of_z w32 z)) (sum_is c) ∙ to_z-of_z (sum_fits c)) (ap (λ e. e.node) (edge_is c)) in
+    let e = (goal.at.loop-left-preserved c).After-edge_at-edge in
+    let fits : mag c.edge_at-edge.result.weight < 2147483648 = omega arith in
+    let reached : ◌≡◌ {A = Waypoint} (record { value = to_z w32 (of_z w32 (to_z w32 c.loop-left.value-bits +ℤ to_z w32 (of_z w32 c.edge_at-edge.result.weight))); node = c.edge_at-edge.result.node }) (further (list e fits) (low e fits + left e fits) x (at e fits))
+    = ap₂ (λ v k. record { value = v; node = k }) (ap (λ z. to_z w32 (of_z w32 z)) (sum_is e fits) ∙ to_z-of_z {w = w32} (sum_fits e fits)) (ap (λ e. e.node) (edge_is e fits)) in
     record {
-      ready = subst (PathReady (list c) (low c) (left c)) (sym reached) (next c);
+      ready = subst (PathReady (list e fits) (low e fits) (left e fits)) (sym reached) (next e fits);
       leads =
-          ap (descend (list c) (low c) (left c) x) reached
-          ∙ sym (descend_more (list c) (low c) (left c) x (at c))
-          ∙ ap (λ k. descend (list c) (low c) k x (at c)) (sym (one_less c))
+          ap (descend (list e fits) (low e fits) (left e fits) x) reached
+          ∙ sym (descend_more (list e fits) (low e fits) (left e fits) x (at e fits))
+          ∙ ap (λ k. descend (list e fits) (low e fits) k x (at e fits)) (sym (one_less e fits))
           ∙ c.loop-left.invariant.leads;
     }
 
@@ -92,8 +97,8 @@ pub returns : goal.returns
 returns c =
     let a = c.args in
     let l = c.loop-left in
-    let here : Waypoint = record { value = to_z w32 l.value; node = l.node } in
+    let here : Waypoint = record { value = to_z w32 l.value-bits; node = l.node } in
     sym (descend_none a.records.now a.low a.x here)
     ∙ ap (λ k. descend a.records.now a.low k a.x here) (let h = c.loop-left-test.false in let z : 0 ≡ l.left = omega arith in z)
     ∙ l.invariant.leads
-    ∙ ap (λ z. descend a.records.now a.low a.count a.x (record { value = z; node = a.reached.node })) (entered (goal.at.returns c).After-struct_told-1)
+    ∙ ap (λ z. descend a.records.now a.low a.count a.x (record { value = z; node = a.reached.node })) (entered a.reached.value (omega arith))

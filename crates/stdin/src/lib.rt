@@ -5,7 +5,7 @@ ghost use Rattle.std.specs.Prelude.{length};
 ghost use Rattle.stdin.specs.Inner.{PieceWithin};
 ghost use Rattle.stdin.specs.Input.{KeptWithin};
 
-use libc::STDIN_FILENO;
+use std::io::Read;
 
 // What one read gave.
 #[derive(Clone, Copy)]
@@ -23,14 +23,13 @@ pub enum Input {
 }
 
 // One read to the front of a buffer.
-fn read_piece(buffer: &mut [u8]) -> Piece
+#[tactic(auto, unfolding(crate::specs::Inner::PieceWithin))]
+fn read_piece<R: Read>(reader: &mut R, buffer: &mut [u8]) -> Piece
     ensures { PieceWithin (length buffer.old) result }
 {
-    let got = libc::read(STDIN_FILENO, buffer);
-    if got < 0 {
+    let Ok(count) = reader.read(buffer) else {
         return Piece::Failed;
-    }
-    let count = io::count(got, buffer);
+    };
     if count == 0 {
         return Piece::End;
     }
@@ -38,12 +37,13 @@ fn read_piece(buffer: &mut [u8]) -> Piece
 }
 
 // Reads into the buffer until it is full or the input ends.
-fn keep_front(buffer: &mut [u8]) -> Input
+#[tactic(auto, unfolding(crate::specs::Inner::PieceWithin, crate::specs::Input::KeptWithin))]
+fn keep_front<R: Read>(reader: &mut R, buffer: &mut [u8]) -> Input
     ensures { KeptWithin (length buffer.old) result }
 {
     let mut kept = 0;
     while kept < buffer.len() {
-        match read_piece(&mut buffer[kept..]) {
+        match read_piece(reader, &mut buffer[kept..]) {
             Piece::Bytes(count) => kept += count,
             Piece::End => return Input::Kept(kept),
             Piece::Failed => return Input::Unreadable,
@@ -53,11 +53,11 @@ fn keep_front(buffer: &mut [u8]) -> Input
 }
 
 // Reads to the end of the input and keeps nothing. Answers whether no read failed.
-fn drop_rest() -> bool {
-    let mut buffer = io::large_buffer();
+fn drop_rest<R: Read>(reader: &mut R) -> bool {
+    let mut buffer = [0u8; 65536];
     let mut turns = u64::MAX;
     while turns > 0 {
-        match read_piece(&mut buffer) {
+        match read_piece(reader, &mut buffer) {
             Piece::Bytes(_) => turns -= 1,
             Piece::End => return true,
             Piece::Failed => return false,
@@ -67,13 +67,15 @@ fn drop_rest() -> bool {
 }
 
 // Reads to the end of the input and keeps as many of its first bytes as the buffer holds.
-pub fn read_all(buffer: &mut [u8]) -> Input
+#[tactic(auto, unfolding(crate::specs::Input::KeptWithin))]
+pub fn read_all<R: std::io::Input>(rt: &R, buffer: &mut [u8]) -> Input
     ensures { KeptWithin (length buffer.old) result }
 {
-    let Input::Kept(count) = keep_front(buffer) else {
+    let mut reader = rt.reader();
+    let Input::Kept(count) = keep_front(&mut reader, buffer) else {
         return Input::Unreadable;
     };
-    if count == buffer.len() && !drop_rest() {
+    if count == buffer.len() && !drop_rest(&mut reader) {
         return Input::Unreadable;
     }
     Input::Kept(count)

@@ -61,7 +61,7 @@ fn judge_line(line: &[u8]) -> bool
 }
 
 // Judges the cases of a text, prints a line for each, and at the end how many passed and failed.
-pub(crate) fn judge_all(cases: &[u8]) {
+pub(crate) fn judge_all(rt: &impl Print, cases: &[u8]) {
     let mut tally = Tally {
         passed: 0,
         failed: 0,
@@ -71,8 +71,8 @@ pub(crate) fn judge_all(cases: &[u8]) {
         let numbers = cases::case_lines::behind_line(cases, at);
         let next = cases::case_lines::behind_line(cases, numbers);
         let passed = judge_line(&cases[numbers..next]);
-        tally = tally.note(&cases[at..numbers], passed);
+        tally = tally.note(rt, &cases[at..numbers], passed);
         at = next;
     }
-    tally.print();
+    tally.print(rt);
 }

@@ -6,24 +6,23 @@ mod judging;
 
 ghost use Rattle.stdin.specs.Input.{Keeps};
 
-use libc::STDERR_FILENO;
 use stdin::Input;
 
 // No less than the bytes of all cases.
 const KEPT: usize = 262144;
 
 // Reads to the end of the input and keeps its first bytes.
-fn read_cases(buffer: &mut [u8; KEPT]) -> Input
+fn read_cases(rt: &impl std::io::Input, buffer: &mut [u8; KEPT]) -> Input
     ensures { Keeps 262144 buffer.new result }
 {
-    stdin::read_all(buffer)
+    stdin::read_all(rt, buffer)
 }
 
-fn main() {
+fn main(rt: HostRuntime) {
     let mut buffer = [0u8; KEPT];
-    let Input::Kept(count) = read_cases(&mut buffer) else {
-        io::write_all(STDERR_FILENO, b"checks: cannot read standard input\n");
+    let Input::Kept(count) = read_cases(&rt, &mut buffer) else {
+        let _ = rt.eprint("checks: cannot read standard input\n");
         return;
     };
-    judging::judge_all(&buffer[..count]);
+    judging::judge_all(&rt, &buffer[..count]);
 }

@@ -4,7 +4,6 @@
 ghost use Rattle.stdin.specs.Input.{Keeps};
 ghost use Rattle.listing.specs.Kept.{kept_bytes};
 
-use libc::{STDERR_FILENO, STDOUT_FILENO};
 use listing::TEXT_ROOM;
 use stdin::Input;
 
@@ -12,26 +11,26 @@ use stdin::Input;
 const KEPT: usize = 8195;
 
 // Reads to the end of the input and keeps its first bytes.
-fn read_input(buffer: &mut [u8; KEPT]) -> Input
+fn read_input(rt: &impl std::io::Input, buffer: &mut [u8; KEPT]) -> Input
     ensures { Keeps kept_bytes buffer.new result }
 {
-    stdin::read_all(buffer)
+    stdin::read_all(rt, buffer)
 }
 
 // Writes the listing of the kept bytes. Answers whether all of it was written.
-fn print_listing(kept: &[u8]) -> bool {
+fn print_listing(rt: &impl Print, kept: &[u8]) -> bool {
     let mut text = [0u8; TEXT_ROOM];
     let length = listing::list_kept(kept, &mut text);
-    io::write_all(STDOUT_FILENO, &text[..length])
+    rt.write_all(&text[..length]).is_ok()
 }
 
-fn main() {
+fn main(rt: HostRuntime) {
     let mut buffer = [0u8; KEPT];
-    let Input::Kept(count) = read_input(&mut buffer) else {
-        io::write_all(STDERR_FILENO, b"list: cannot read standard input\n");
+    let Input::Kept(count) = read_input(&rt, &mut buffer) else {
+        let _ = rt.eprint("list: cannot read standard input\n");
         return;
     };
-    if !print_listing(&buffer[..count]) {
-        io::write_all(STDERR_FILENO, b"list: cannot write standard output\n");
+    if !print_listing(&rt, &buffer[..count]) {
+        let _ = rt.eprint("list: cannot write standard output\n");
     }
 }

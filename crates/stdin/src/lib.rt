@@ -68,7 +68,7 @@ fn drop_rest<R: Read>(reader: &mut R) -> bool {
 
 // Reads to the end of the input and keeps as many of its first bytes as the buffer holds.
 #[tactic(auto, unfolding(crate::specs::Input::KeptWithin))]
-pub fn read_all<R: std::io::Input>(rt: &R, buffer: &mut [u8]) -> Input
+pub fn read_all(rt: &impl std::io::Input, buffer: &mut [u8]) -> Input
     ensures { KeptWithin (length buffer.old) result }
 {
     let mut reader = rt.reader();

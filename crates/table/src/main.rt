@@ -8,7 +8,6 @@ ghost use Rattle.stdin.specs.Input.{Keeps};
 ghost use Rattle.table.specs.Listed.{ListsText};
 
 use decimal::{Expected, Parsed};
-use libc::{STDERR_FILENO, STDOUT_FILENO};
 use stdin::Input;
 
 // One byte more than the longest text that is read.
@@ -22,10 +21,10 @@ enum Answer {
 }
 
 // Reads to the end of the input and keeps its first bytes.
-fn read_text(buffer: &mut [u8; KEPT]) -> Input
+fn read_text(rt: &impl std::io::Input, buffer: &mut [u8; KEPT]) -> Input
     ensures { Keeps 1048577 buffer.new result }
 {
-    stdin::read_all(buffer)
+    stdin::read_all(rt, buffer)
 }
 
 // The listing of the table that a text gives, in front of the lent bytes.
@@ -42,31 +41,31 @@ fn list_text(text: &[u8], out: &mut [u8; listing::TEXT_ROOM]) -> Answer
 }
 
 // Writes a listing to standard output.
-fn print_listing(out: &[u8]) {
-    if !io::write_all(STDOUT_FILENO, out) {
-        io::write_all(STDERR_FILENO, b"table: cannot write standard output\n");
+fn print_listing(rt: &(impl Print + Eprint), out: &[u8]) {
+    if rt.write_all(out).is_err() {
+        let _ = rt.eprint("table: cannot write standard output\n");
     }
 }
 
 // Writes what a text gives.
-fn print_answer(text: &[u8]) {
+fn print_answer(rt: &(impl Print + Eprint), text: &[u8]) {
     let mut out = [0u8; listing::TEXT_ROOM];
     match list_text(text, &mut out) {
-        Answer::Listing(length) => print_listing(&out[..length]),
-        Answer::Wrong { line, expected } => crate::messages::print_wrong(line, expected),
+        Answer::Listing(length) => print_listing(rt, &out[..length]),
+        Answer::Wrong { line, expected } => crate::messages::print_wrong(rt, line, expected),
     }
 }
 
-fn main() {
+fn main(rt: HostRuntime) {
     let mut buffer = [0u8; KEPT];
-    let Input::Kept(count) = read_text(&mut buffer) else {
-        io::write_all(STDERR_FILENO, b"table: cannot read standard input\n");
+    let Input::Kept(count) = read_text(&rt, &mut buffer) else {
+        let _ = rt.eprint("table: cannot read standard input\n");
         return;
     };
     if count == KEPT {
-        io::write_all(STDERR_FILENO, b"expected a text of at most 1048576 bytes\n");
-        crate::messages::print_refusal(106);
+        let _ = rt.eprint("expected a text of at most 1048576 bytes\n");
+        crate::messages::print_refusal(&rt, 106);
         return;
     }
-    print_answer(&buffer[..count]);
+    print_answer(&rt, &buffer[..count]);
 }

@@ -4,7 +4,6 @@ use mathlib.Core.Path.{◌≡◌, sym, ◌∙◌, ap}
 use mathlib.Core.Bool.{true}
 use mathlib.Core.List.{List}
 use native.Mathlib.Omega.{arith}
-use borrow.Author.Rules.{rules}
 use Rattle.numbers.specs.Answers.{accepted}
 use Rattle.numbers.specs.Laws.Answers.{map_refused}
 use Rattle.image.specs.declared.Command.{Command}
@@ -22,18 +21,11 @@ use Rattle.pairs.proofs.pair_run.Goals.{Else-not-is_pair, Else-not-is_pair_bits,
 bits : (c : Else-not-is_pair_bits) → is_pair_bits c.args.m ≡ true
 bits c = sym c.is_pair_bits.ensures ∙ c.if-not-is_pair_bits.false
 
--- The function's start, and m's test, from where the image is known to be whole.
-abbrev whole_from : In-Passed → Else-not-is_pair_bits
-whole_from c = c.before.before.before
-
-abbrev at-whole : In-Passed → Start
-at-whole c = (whole_from c).before.before.before
-
-whole : (c : In-Passed) → (commands : List Command) × (reading_for (2 * (at-whole c).args.m) (at-whole c).args.image.now ≡ accepted commands)
+whole : (c : In-Passed) → (commands : List Command) × (reading_for (2 * c.args.m) c.args.image.now ≡ accepted commands)
 unfolding checked done
-whole c = done_accepted (reading_for (2 * (at-whole c).args.m) (at-whole c).args.image.now) (sym c.check_for.ensures ∙ ap checked c.in-Passed.is)
+whole c = done_accepted (reading_for (2 * c.args.m) c.args.image.now) (sym c.check_for.ensures ∙ ap checked c.in-Passed.is)
 
-pair : (c : Else-not-is_pair) → is_pair (at-whole c.before.before).args.m (at-whole c.before.before).args.x (at-whole c.before.before).args.y ≡ true
+pair : (c : Else-not-is_pair) → is_pair c.args.m c.args.x c.args.y ≡ true
 pair c = sym c.is_pair.ensures ∙ c.if-not-is_pair.false
 
 pub returns-then-not-is_pair_bits : goal.returns-then-not-is_pair_bits
@@ -46,22 +38,22 @@ pub overflow_mul-m : goal.overflow_mul-m
 overflow_mul-m c = let most = ((bits_test c.args.m).0 (bits c)).1 in omega arith
 
 pub is_pair-requires : goal.is_pair-requires
-is_pair-requires c = bits (whole_from c)
+is_pair-requires c = bits (goal.at.is_pair-requires c).Else-not-is_pair_bits
 
 pub returns-then-not-is_pair : goal.returns-then-not-is_pair
 unfolding ran
 returns-then-not-is_pair c =
     let w = (goal.at.returns-then-not-is_pair c).In-Passed in
-    let a = (at-whole w).args in
-    sym (pair_refused a.m a.image.now a.x a.y (bits (whole_from w)) (whole w).0 (whole w).1 (sym c.is_pair.ensures ∙ c.if-not-is_pair.true))
+    let a = c.args in
+    sym (pair_refused a.m a.image.now a.x a.y (bits (goal.at.returns-then-not-is_pair c).Else-not-is_pair_bits) (whole w).0 (whole w).1 (sym c.is_pair.ensures ∙ c.if-not-is_pair.true))
 
 pub pair_index-requires : goal.pair_index-requires
-pair_index-requires c = (bits (whole_from c.before.before), pair c)
+pair_index-requires c = (bits (goal.at.pair_index-requires c).Else-not-is_pair_bits, pair (goal.at.pair_index-requires c).Else-not-is_pair)
 
 pub run_accepted-requires : goal.run_accepted-requires
 run_accepted-requires c =
     let w = (goal.at.run_accepted-requires c).In-Passed in
-    let a = (at-whole w).args in
+    let a = c.args in
     record { commands = (whole w).0; read = ((for_accepted (2 * a.m) a.image.now (whole w).0).1 (whole w).1).0 }
 
 pub returns-in-Refused : goal.returns-in-Refused
@@ -75,7 +67,7 @@ pub returns-else-not-is_pair : goal.returns-else-not-is_pair
 returns-else-not-is_pair c =
     let e = (goal.at.returns-else-not-is_pair c).Else-not-is_pair in
     let w = (goal.at.returns-else-not-is_pair c).In-Passed in
-    let a = (at-whole w).args in
+    let a = c.args in
     c.run_accepted.ensures
     ∙ ap (run a.image.now) c.pair_index.ensures
-    ∙ sym (pair_run_lem a.m a.image.now a.x a.y (bits (whole_from w)) (whole w).0 (whole w).1 (pair e))
+    ∙ sym (pair_run_lem a.m a.image.now a.x a.y (bits (goal.at.returns-else-not-is_pair c).Else-not-is_pair_bits) (whole w).0 (whole w).1 (pair e))

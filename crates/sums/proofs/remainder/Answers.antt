@@ -1,7 +1,6 @@
 -- `summer::remainder` meets its contract.
 use mathlib.Core.Path.{sym, ◌∙◌, ap}
 use lib.ListN.{length}
-use borrow.Author.Rules.{rules}
 use Rattle.numbers.specs.Answers.{unless}
 use Rattle.numbers.specs.Inner.Checks.{checked}
 use Rattle.sums.specs.Sums.{remainder_table, is_remainder_bits, into_room, reduced_sum}

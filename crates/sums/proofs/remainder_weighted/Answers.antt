@@ -6,7 +6,6 @@ use mathlib.Core.List.{map}
 use native.Mathlib.Omega.{arith}
 use lib.ListN.{length}
 use lib.IntN.{pos}
-use borrow.Author.Rules.{rules}
 use Rattle.sums.specs.Sums.{remainder_by, remainder_table, is_remainder_bits, reduced_sum}
 use Rattle.sums.specs.Laws.Answers.{unadmitted, unroomed, answered, fills_refused, fills_whole}
 use Rattle.sums.specs.Laws.Classes.{bits_test, remainders_length}
@@ -53,7 +52,7 @@ returns c =
     let e = (goal.at.returns c).Else-table-power in
     let a = c.args in
     let table = remainder_table a.q a.weights.now in
-    fills_whole (reduced_sum a.n a.weights.now a.q (length a.table.now)) table a.table.now c.reduce.new.1.0
+    fills_whole (reduced_sum a.n a.weights.now a.q (length a.table.now)) table a.table.now c.reduce.new.table
     (answered a.n a.weights.now (is_remainder_bits a.q) 19 (length a.table.now) table c.requires (bits (goal.at.returns c).Else-not-is_remainder_bits) (size e))
     (remainders_length a.q a.weights.now ∙ ap (λ k. 2 ^ k) c.requires.size ∙ sym (size e))
     (c.reduce.ensures ∙ ap (map (λ z. pos (remainder_by (2 ^ a.q) z))) c.write_sums.ensures)

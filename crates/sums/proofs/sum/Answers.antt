@@ -1,7 +1,6 @@
 -- `summer::sum` meets its contract.
 use mathlib.Core.Path.{sym, ◌∙◌, ap}
 use lib.ListN.{length}
-use borrow.Author.Rules.{rules}
 use Rattle.numbers.specs.Answers.{unless}
 use Rattle.numbers.specs.Lists.{every}
 use Rattle.numbers.specs.Ranges.{is_value}

@@ -4,7 +4,6 @@ use mathlib.Core.Path.{◌≡◌, sym, ◌∙◌, ap}
 use mathlib.Core.Bool.{true}
 use native.Mathlib.Omega.{arith}
 use lib.ListN.{length}
-use borrow.Author.Rules.{rules}
 use Rattle.numbers.specs.Lists.{every}
 use Rattle.numbers.specs.Ranges.{is_value}
 use Rattle.sums.specs.Sums.{sum_table, plain_sum}
@@ -56,7 +55,7 @@ returns c =
     let e = (goal.at.returns c).Else-table-power in
     let a = c.args in
     let table = sum_table a.weights.now in
-    fills_whole (plain_sum a.n a.weights.now (length a.table.now)) table a.table.now c.write_sums.new.1.0
+    fills_whole (plain_sum a.n a.weights.now (length a.table.now)) table a.table.now c.write_sums.new.table
     (answered a.n a.weights.now (every is_value table) 18 (length a.table.now) table c.requires (values (goal.at.returns c).Else-not-sums_fit) (size e))
     (table_length a.weights.now ∙ ap (λ k. 2 ^ k) c.requires.size ∙ sym (size e))
     c.write_sums.ensures

@@ -1,6 +1,6 @@
 -- `sum_tables::add_weight` meets its contract. The loop's invariant: so many of the first numbers are written once more, each with
 -- the weight added.
-use Prim.Native.Nat.{◌+◌, ◌-◌, ◌^◌, ◌≤◌, ◌<◌}
+use Prim.Native.Nat.{◌+◌, ◌^◌, ◌<◌}
 use mathlib.Core.Path.{◌≡◌, ◌∙◌, ap, ap₂}
 use mathlib.Core.List.{map}
 use native.Mathlib.Omega.{arith}

@@ -1,16 +1,15 @@
 -- `sum_tables::reduce` meets its contract. The loop's invariant: the first x numbers are reduced, the rest is as it was.
-use Prim.Native.Nat.{◌+◌, ◌-◌, ◌^◌, ◌≤◌, ◌<◌}
+use Prim.Native.Nat.{◌+◌, ◌^◌, ◌≤◌, ◌<◌}
 use mathlib.Core.Path.{◌≡◌, refl, ◌∙◌, ap, ap₂}
 use mathlib.Core.List.{map}
 use native.Mathlib.Omega.{arith}
-use lib.ListN.{length, get_or, take, set}
+use lib.ListN.{length, get_or, set}
 use lib.Pow.{pow_pos, pow_mono}
 use lib.IntN.{pos}
 use borrow.Author.Rules.{scaled_Fits}
 use mir.Syntax.{w32}
 use mir.Val.{SFits, of_z, to_z}
 use mir.Facts.{to_z-of_z, Fits-of_lt}
-use Rattle.numbers.specs.Lists.{overwritten}
 use Rattle.sums.specs.Sums.{remainder_by}
 use Rattle.sums.specs.Laws.Remainders.{remainder_below}
 use Rattle.sums.specs.Laws.Filling.{changed_none, changed_length, changed_more, changed_all, next_behind}

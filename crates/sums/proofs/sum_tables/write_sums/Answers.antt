@@ -1,5 +1,4 @@
 -- `sum_tables::write_sums` meets its contract. The loop's invariant: the sums of the first j weights stand in front.
-use Prim.Native.Nat.{◌-◌, ◌≤◌}
 use mathlib.Core.Path.{◌≡◌, sym, ◌∙◌}
 use native.Mathlib.Omega.{arith}
 use lib.ListN.{length, get_or}
@@ -8,7 +7,6 @@ use lib.IntN.{pos}
 use mir.Syntax.{w32}
 use mir.Val.{of_z, to_z}
 use mir.Facts.{to_z-of_z, Fits-of_lt}
-use Rattle.sums.specs.Inner.Filling.{SumsWritten}
 use Rattle.sums.specs.Laws.Filling.{first_sum, may_double, doubled, all_sums}
 use Rattle.sums.proofs.sum_tables.write_sums.Goals as goal
 use Rattle.sums.proofs.sum_tables.write_sums.Goals.{After-add_weight-arg-in-loop-j-1}

@@ -1,8 +1,7 @@
 -- `weight_lists::check_weights` meets its contract.
 use mathlib.Core.Path.{◌≡◌, sym, ◌∙◌}
 use mathlib.Core.Bool.{true}
-use borrow.Author.Rules.{rules}
-use borrow.Author.Tests.{not-true, not-false, eq-eqb, ne_eqb}
+use borrow.Author.Tests.{eq-eqb, ne_eqb}
 use Rattle.numbers.specs.Ranges.{is_variables}
 use Rattle.numbers.specs.Inner.Checks.{checked}
 use Rattle.sums.specs.Sums.{of_weights}

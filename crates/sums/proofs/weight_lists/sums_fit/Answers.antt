@@ -1,7 +1,6 @@
 -- `weight_lists::sums_fit` meets its contract. The loop's invariant: the least and the greatest sum of the first j weights.
-use Prim.Native.Nat.{ℕ, ◌+◌, ◌-◌, ◌*◌, ◌^◌, ◌≤◌, ◌<◌}
+use Prim.Native.Nat.{ℕ, ◌+◌, ◌*◌, ◌^◌, ◌≤◌, ◌<◌}
 use mathlib.Core.Path.{◌≡◌, refl, sym, ◌∙◌, ap, ap₂}
-use mathlib.Core.Logic.{⊎_elim}
 use mathlib.Core.Bool.{true, false, ◌&&◌}
 use mathlib.Core.List.{List, [], ◌∷◌, ◌++◌}
 use native.Mathlib.Numerals.{add-one}
@@ -10,7 +9,6 @@ use lib.ListN.{length, get_or, take}
 use lib.Seq.{take-suc, take-length, length-take-le}
 use lib.IntN.{ℤ, pos, ◌+ℤ◌}
 use lib.Signed.{mag, lt_z}
-use borrow.Author.Rules.{rules}
 use mir.Syntax.{w32}
 use mir.Val.{SFits, of_z, to_z}
 use mir.Facts.{to_z-of_z, Fits-of_lt}
@@ -22,9 +20,8 @@ use Rattle.numbers.specs.Laws.Machine.{mag_add}
 use Rattle.sums.specs.Sums.{least_sum, greatest_sum}
 use Rattle.sums.specs.Laws.Extremes.{values_by_extremes, least_more, least_still, greatest_more, greatest_still, least_small, greatest_small}
 use Rattle.sums.specs.Laws.Summable.{first_values}
-use Rattle.sums.proofs.weight_lists.sums_fit.Invariants.{Sums}
 use Rattle.sums.proofs.weight_lists.sums_fit.Goals as goal
-use Rattle.sums.proofs.weight_lists.sums_fit.Goals.{After-is_value, After-loop-j, After-weight-1}
+use Rattle.sums.proofs.weight_lists.sums_fit.Goals.{After-is_value, After-loop-j, After-weight-1, then-weight-lt0, else-weight-lt0}
 
 pub loop-j-init : goal.loop-j-init
 unfolding least_sum greatest_sum keep exact_sum
@@ -110,18 +107,18 @@ loop-j-smaller c = let i = inside (goal.at.loop-j-smaller c).After-weight-1 in o
 pub loop-j-preserved : goal.loop-j-preserved
 loop-j-preserved c =
     let d = (goal.at.loop-j-preserved c).After-weight-1 in
-    ⊎_elim
-    (λ w. record {
-      most = (let i = inside d in omega arith);
-      low = ap (to_z w32) w.1 ∙ to_z-of_z (least_adds d) ∙ least_added d w.0.true;
-      high = ap (to_z w32) w.2 ∙ greatest_kept d w.0.true;
-    })
-    (λ w. record {
-      most = (let i = inside d in omega arith);
-      low = ap (to_z w32) w.1 ∙ least_kept d w.0.left;
-      high = ap (to_z w32) w.2 ∙ to_z-of_z (greatest_adds d) ∙ greatest_added d w.0.left;
-    })
-    c.if-weight-lt0.branch
+    elim c.if-weight-lt0.branch [
+      | then-weight-lt0 w ↦ record {
+        most = (let i = inside d in omega arith);
+        low = w.least-is ∙ to_z-of_z (least_adds d) ∙ least_added d w.if-weight-lt0.true;
+        high = w.greatest-is ∙ greatest_kept d w.if-weight-lt0.true;
+      }
+      | else-weight-lt0 w ↦ record {
+        most = (let i = inside d in omega arith);
+        low = w.least-is ∙ least_kept d w.if-weight-lt0.false;
+        high = w.greatest-is ∙ to_z-of_z (greatest_adds d) ∙ greatest_added d w.if-weight-lt0.false;
+      }
+    ]
 
 -- All weights: both sums are judged.
 module _ (c : After-loop-j) where
@@ -137,17 +134,20 @@ module _ (c : After-loop-j) where
   greatest_is : to_z w32 c.loop-j.greatest-bits ≡ greatest_sum all
   greatest_is = c.loop-j.invariant.high ∙ ap greatest_sum whole
 
-judged : (c : After-is_value) → c.is_value.result ≡ is_value (least_sum (all UNMAPPED.After-loop-j))
-judged c = c.is_value.ensures ∙ ap is_value (least_is UNMAPPED.After-loop-j)
+judged : (c : After-is_value) → to_z w32 c.loop-j.least-bits ≡ least_sum c.args.weights.now → c.is_value.result ≡ is_value (least_sum c.args.weights.now)
+judged c least = c.is_value.ensures ∙ ap is_value least
 
 pub returns-then-is_value : goal.returns-then-is_value
 returns-then-is_value c =
     let d = (goal.at.returns-then-is_value c).After-is_value in
+    let l = (goal.at.returns-then-is_value c).After-loop-j in
     c.is_value-then-is_value.ensures
-    ∙ ap is_value (greatest_is (goal.at.returns-then-is_value c).After-loop-j)
-    ∙ sym (values_by_extremes (all (goal.at.returns-then-is_value c).After-loop-j) ∙ ap (λ b. b && is_value (greatest_sum (all (goal.at.returns-then-is_value c).After-loop-j))) (sym (judged d) ∙ c.if-is_value.true))
+    ∙ ap is_value (greatest_is l)
+    ∙ sym (values_by_extremes (all l) ∙ ap (λ b. b && is_value (greatest_sum (all l))) (sym (judged d (least_is l)) ∙ c.if-is_value.true))
 
 pub returns-else-is_value : goal.returns-else-is_value
 returns-else-is_value c =
     let d = (goal.at.returns-else-is_value c).After-is_value in
-    c.if-is_value.false ∙ sym (values_by_extremes (all (goal.at.returns-else-is_value c).After-loop-j) ∙ ap (λ b. b && is_value (greatest_sum (all (goal.at.returns-else-is_value c).After-loop-j))) (sym (judged d) ∙ c.if-is_value.false))
+    let l = (goal.at.returns-else-is_value c).After-loop-j in
+    c.if-is_value.false
+    ∙ sym (values_by_extremes (all l) ∙ ap (λ b. b && is_value (greatest_sum (all l))) (sym (judged d (least_is l)) ∙ c.if-is_value.false))

@@ -13,12 +13,12 @@ pub returns-then-cost-least : goal.returns-then-cost-least
 unfolding taken
 returns-then-cost-least c =
     let a = c.args in
-    let least = c.in-Costing.FIELDS.0 in
+    let least = c.in-Costing.least in
     sym (ap (taken a.size a.cost) c.in-Costing.is ∙ rw (lt-ltb a.cost least c.if-cost-least.true, taken))
 
 pub returns-else-cost-least : goal.returns-else-cost-least
 unfolding taken
 returns-else-cost-least c =
     let a = c.args in
-    let least = c.in-Costing.FIELDS.least in
+    let least = c.in-Costing.least in
     sym (ap (taken a.size a.cost) c.in-Costing.is ∙ rw (le-ltb a.cost least c.if-cost-least.false, taken))

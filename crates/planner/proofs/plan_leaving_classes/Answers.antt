@@ -1,6 +1,5 @@
 -- `planner::plan_leaving_classes` meets its contract.
 use mathlib.Core.Path.{sym, ◌∙◌, ap, subst⁻¹}
-use borrow.Author.Rules.{rules}
 use Rattle.diagram.specs.Accepted.{Accepted}
 use Rattle.numbers.specs.Inner.Checks.{checked}
 use Rattle.diagram.specs.Laws.Builds.{passed_table}

@@ -4,7 +4,6 @@ use mathlib.Core.Path.{◌≡◌, ◌∙◌, ap, ap₂}
 use native.Mathlib.Omega.{arith}
 use lib.ListN.{get_or}
 use mir.Facts.{Fits-of_lt}
-use borrow.Author.Rules.{rules}
 use Rattle.blocks.specs.Uses.{commonest}
 use Rattle.blocks.specs.Inner.Layout.{in_cut}
 use Rattle.cascade.specs.Inner.Choices.{cost_of}

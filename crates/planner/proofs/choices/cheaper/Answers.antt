@@ -1,6 +1,5 @@
 -- `choices::cheaper` meets its contract.
 use mathlib.Core.Path.{sym, ◌∙◌, ap}
-use borrow.Author.Rules.{rules}
 use borrow.Author.Tests.{lt-ltb, le-ltb}
 use Rattle.cascade.specs.Inner.Choices.{taken}
 use Rattle.planner.proofs.choices.cheaper.Goals as goal

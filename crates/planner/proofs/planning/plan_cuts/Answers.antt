@@ -2,7 +2,6 @@
 use mathlib.Core.Path.{◌≡◌, sym, ◌∙◌, ap, subst⁻¹}
 use native.Mathlib.Omega.{arith}
 use lib.ListN.{get_or}
-use borrow.Author.Rules.{rules}
 use Rattle.cascade.specs.Plan.{Plans}
 use Rattle.cascade.specs.Inner.Choices.{table_choice}
 use Rattle.cascade.specs.declared.Choice.TheVariants.{NoList}

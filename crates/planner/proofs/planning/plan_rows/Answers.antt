@@ -7,7 +7,6 @@ use lib.ListN.{length}
 use lib.Seq.{length-take-le}
 use lib.Pow.{pow_pos, pow_mono}
 use mir.Facts.{Fits-of_lt}
-use borrow.Author.Rules.{rules}
 use Rattle.numbers.specs.Laws.Rows.{filled_front}
 use Rattle.blocks.specs.Rows.{cut_place, all_numbers, all_firsts, all_counts}
 use Rattle.blocks.specs.Laws.Places.{length_numbers, length_firsts, length_counts}
@@ -78,8 +77,11 @@ pub returns : goal.returns
 returns c =
     let k = c.plan_table in
     let p = (goal.at.returns c).After-power-places in
-    let a = c.args in record { plans = k.ensures.plans; rows_filled = record {
+    let a = c.args in record {
+      plans = k.ensures.plans;
+      rows_filled = record {
         numbered = filled_front a.classes.now (all_numbers a.n a.table.now) k.ensures.all_classed.numbered (places p ∙ sym (length_numbers a.n a.table.now));
         placed = filled_front a.firsts.now (all_firsts a.n a.table.now) k.ensures.all_classed.placed (places p ∙ sym (length_firsts a.n a.table.now));
         counted = filled_front a.counts.now (all_counts a.n a.table.now) k.ensures.all_classed.counted (add-one a.n ∙ sym (length_counts a.n a.table.now));
-      } }
+      };
+    }

@@ -6,7 +6,6 @@ use mathlib.Core.List.{List}
 use native.Mathlib.Omega.{arith}
 use lib.ListN.{length, length-append}
 use lib.Seq.{length-take-le, take_at}
-use borrow.Author.Rules.{rules}
 use Rattle.numbers.specs.Ranges.{most_variables}
 use Rattle.blocks.specs.Laws.Cuts.{places_most}
 use Rattle.cascade.specs.Laws.Cells.{variables_most}

@@ -1,7 +1,6 @@
 -- `prices::class_extremes` meets its contract. The loop's invariant: the extremes with the words so far.
 use Prim.Native.Nat.{ℕ, suc, ◌+◌, ◌-◌, ◌*◌, ◌^◌, ◌≤◌, ◌<◌}
 use mathlib.Core.Path.{◌≡◌, sym, ◌∙◌, ap, ap₂}
-use mathlib.Core.List.{List}
 use native.Mathlib.Nat.{add-zero, add-mul, le_of_mul-le-mul_right, lt_of_mul-lt-mul_right}
 use native.Mathlib.Omega.{arith}
 use lib.ListN.{length, get_or}
@@ -10,7 +9,7 @@ use lib.IntN.{ℤ, pos, ◌-ℤ◌}
 use mir.Syntax.{w32}
 use mir.Val.{of_z, to_z, SFits}
 use mir.Facts.{to_z-of_z, Fits-of_lt}
-use borrow.Author.Rules.{rules, sfits_of}
+use borrow.Author.Rules.{sfits_of}
 use Rattle.numbers.specs.Ranges.{lesser, greater}
 use Rattle.blocks.specs.Rows.{cut_place}
 use Rattle.cascade.specs.Inner.Words.{cell_word}
@@ -18,7 +17,6 @@ use Rattle.cascade.specs.Laws.Cells.{variables_most}
 use Rattle.cascade.specs.Laws.Words.{sub_blocks}
 use Rattle.planner.specs.Inner.Extremes.{extremes_of}
 use Rattle.planner.specs.Laws.Pricing.{cut_small, end_small, height_small, lower_small, first_place, from_inside, weight_inside, weight_at_lem, weight_small, one_of_words, extremes_next, values_most}
-use Rattle.planner.proofs.prices.class_extremes.Invariants.{Gathered}
 use Rattle.planner.proofs.prices.class_extremes.Goals as goal
 use Rattle.planner.proofs.prices.class_extremes.Goals.{After-in_cut, After-weight-1, In-loop-place}
 

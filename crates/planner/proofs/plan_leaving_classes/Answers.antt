@@ -1,6 +1,5 @@
 -- `planner::plan_leaving_classes` meets its contract.
 use mathlib.Core.Path.{sym, ◌∙◌, ap, subst⁻¹}
-use borrow.Author.Rules.{rules}
 use Rattle.diagram.specs.Accepted.{Accepted}
 use Rattle.numbers.specs.Inner.Checks.{checked}
 use Rattle.diagram.specs.Laws.Builds.{passed_table}
@@ -19,12 +18,13 @@ module _ (c : In-Passed) where
 
 pub returns-then-not-is_limit : goal.returns-then-not-is_limit
 returns-then-not-is_limit c =
-    let s = start (goal.at.returns-then-not-is_limit c).In-Passed in
-    let unlimited = sym c.is_limit.ensures ∙ c.if-not-is_limit.true in (
-      subst⁻¹ (λ (r : Planned). Plans s.args.n s.args.table.now s.args.limit r) c.refused_plan-then-not-is_limit.ensures
-          (refused_plans s.args.n s.args.table.now s.args.limit 8 (plan_limited s.args.n s.args.table.now s.args.limit (passed (goal.at.returns-then-not-is_limit c).In-Passed) unlimited)),
-      rows_kept s.args.n s.args.table.now s.args.limit (classed s.args.n s.args.table.now s.args.limit (passed (goal.at.returns-then-not-is_limit c).In-Passed) ∙ unlimited),
-    )
+    let a = c.args in
+    let accepted = passed (goal.at.returns-then-not-is_limit c).In-Passed in
+    let unlimited = sym c.is_limit.ensures ∙ c.if-not-is_limit.true in record {
+      plans = subst⁻¹ (λ (r : Planned). Plans a.n a.table.now a.limit r) c.refused_plan-then-not-is_limit.ensures
+          (refused_plans a.n a.table.now a.limit 8 (plan_limited a.n a.table.now a.limit accepted unlimited));
+      rows_left = rows_kept a.n a.table.now a.limit (classed a.n a.table.now a.limit accepted ∙ unlimited);
+    }
 
 pub plan_rows-requires : goal.plan_rows-requires
 plan_rows-requires c =
@@ -33,14 +33,16 @@ plan_rows-requires c =
 pub returns-in-Refused : goal.returns-in-Refused
 unfolding checked
 returns-in-Refused c =
-    let unfit = sym c.check_table.ensures ∙ ap checked c.in-Refused.is in record { plans = subst⁻¹ (λ (r : Planned). Plans c.args.n c.args.table.now c.args.limit r) c.refused_plan.ensures
-          (refused_plans c.args.n c.args.table.now c.args.limit _ (plan_unfit c.args.n c.args.table.now c.args.limit _ unfit)); rows_left = (
-      rows_kept c.args.n c.args.table.now c.args.limit (unclassed c.args.n c.args.table.now c.args.limit _ unfit),
-    ) }
+    let a = c.args in
+    let unfit = sym c.check_table.ensures ∙ ap checked c.in-Refused.is in record {
+      plans = subst⁻¹ (λ (r : Planned). Plans a.n a.table.now a.limit r) c.refused_plan.ensures
+          (refused_plans a.n a.table.now a.limit _ (plan_unfit a.n a.table.now a.limit _ unfit));
+      rows_left = rows_kept a.n a.table.now a.limit (unclassed a.n a.table.now a.limit _ unfit);
+    }
 
 pub returns : goal.returns
 returns c =
-    let s = start (goal.at.returns c).In-Passed in (
-      c.plan_rows.ensures.0,
-      rows_filled s.args.n s.args.table.now s.args.limit (classed s.args.n s.args.table.now s.args.limit (passed (goal.at.returns c).In-Passed) ∙ sym c.is_limit.ensures ∙ c.if-not-is_limit.false) c.plan_rows.ensures.1,
-    )
+    let a = c.args in record {
+      plans = c.plan_rows.ensures.plans;
+      rows_left = rows_filled a.n a.table.now a.limit (classed a.n a.table.now a.limit (passed (goal.at.returns c).In-Passed) ∙ sym c.is_limit.ensures ∙ c.if-not-is_limit.false) c.plan_rows.ensures.rows_filled;
+    }

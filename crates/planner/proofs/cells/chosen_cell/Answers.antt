@@ -4,7 +4,6 @@ use mathlib.Core.Path.{◌≡◌, ◌∙◌, ap, ap₂}
 use native.Mathlib.Omega.{arith}
 use lib.ListN.{get_or}
 use mir.Facts.{Fits-of_lt}
-use borrow.Author.Rules.{rules}
 use Rattle.blocks.specs.Uses.{commonest}
 use Rattle.blocks.specs.Inner.Layout.{in_cut}
 use Rattle.cascade.specs.Inner.Choices.{cost_of}
@@ -22,9 +21,9 @@ bounds-choices-h c = let p = (places c.requires).0 in omega arith
 
 -- The size that the choice takes.
 module _ (c : After-size_of-group) where
-  is_size : c.type_size.result ≡ size_at c.args.t5 c.args.h
+  is_size : c.size_of-group.result ≡ size_at c.args.choices c.args.h
   unfolding size_at
-  is_size = c.type_size.ensures
+  is_size = c.size_of-group.ensures
 
 pub overflow_add-end : goal.overflow_add-end
 overflow_add-end c = Fits-of_lt (let e = is_size c in let p = (places c.requires).1.0 in omega arith)
@@ -37,10 +36,14 @@ bounds-choices-end c = let e = is_size c in let p = (places c.requires).1.0 in o
 
 -- What the choices at both ends cost.
 module _ (c : After-cost_of-2) where
-  cost_below : let a = c.args in c.cost_of-2.result ≡ cost_of (get_or a.t5 (a.h + size_at a.t5 a.h) NoList)
-  cost_below = let a = c.args in c.cost_of-2.ensures ∙ ap (λ k. cost_of (get_or a.t5 (a.h + k) NoList)) (is_size (goal.at.overflow_sub-bits c).After-size_of-group)
+  taken_size : c.size_of-group.result ≡ size_at c.args.choices c.args.h
+  unfolding size_at
+  taken_size = c.size_of-group.ensures
 
-  is_bits : let a = c.args in c.cost_of.result - c.cost_of-2.result ≡ bits_at a.t5 a.h
+  cost_below : let a = c.args in c.cost_of-2.result ≡ cost_of (get_or a.choices (a.h + size_at a.choices a.h) NoList)
+  cost_below = let a = c.args in c.cost_of-2.ensures ∙ ap (λ k. cost_of (get_or a.choices (a.h + k) NoList)) taken_size
+
+  is_bits : let a = c.args in c.cost_of.result - c.cost_of-2.result ≡ bits_at a.choices a.h
   unfolding bits_at
   is_bits = ap₂ ◌-◌ c.cost_of.ensures cost_below
 
@@ -54,13 +57,13 @@ pub bounds-counts-h : goal.bounds-counts-h
 bounds-counts-h c = (places c.requires).1.1.0
 
 pub offset_bounds-counts-end : goal.offset_bounds-counts-end
-offset_bounds-counts-end c = Fits-of_lt (let s = sized (goal.at.offset_bounds-counts-end c).After-cost_of-2 in let e = is_size s in let p = (places c.requires).1.0 in omega arith)
+offset_bounds-counts-end c = Fits-of_lt (let s = (goal.at.offset_bounds-counts-end c).After-size_of-group in let e = is_size s in let p = (places c.requires).1.0 in omega arith)
 
 pub bounds-counts-end : goal.bounds-counts-end
-bounds-counts-end c = let s = sized (goal.at.bounds-counts-end c).After-cost_of-2 in rw (is_size s) (places c.requires).1.1.1
+bounds-counts-end c = let s = (goal.at.bounds-counts-end c).After-size_of-group in rw (is_size s) (places c.requires).1.1.1
 
 pub commonest_of_cut-commonest-requires : goal.commonest_of_cut-commonest-requires
-commonest_of_cut-commonest-requires c = let s = sized (goal.at.commonest_of_cut-commonest-requires c).After-cost_of-2 in uses_inside c.requires _ (let e = is_size s in let m = moves c.requires in omega arith)
+commonest_of_cut-commonest-requires c = let s = (goal.at.commonest_of_cut-commonest-requires c).After-size_of-group in uses_inside c.requires _ (let e = is_size s in let m = moves c.requires in omega arith)
 
 pub width_of_bits-requires : goal.width_of_bits-requires
 width_of_bits-requires c = let d = (goal.at.width_of_bits-requires c).After-cost_of-2 in rw (is_size (goal.at.width_of_bits-requires c).After-size_of-group, is_bits d) (bits_ready c.requires)

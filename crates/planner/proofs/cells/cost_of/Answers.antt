@@ -1,6 +1,5 @@
 -- `cells::cost_of` meets its contract.
 use mathlib.Core.Path.{sym, ap}
-use borrow.Author.Rules.{rules}
 use Rattle.cascade.specs.Inner.Choices.{cost_of}
 use Rattle.planner.proofs.cells.cost_of.Goals as goal
 

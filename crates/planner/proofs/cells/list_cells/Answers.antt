@@ -1,5 +1,5 @@
 -- `cells::list_cells` meets its contract. The loop's invariant: the cells down to cut h are listed.
-use Prim.Native.Nat.{◌+◌, ◌-◌, ◌<◌}
+use Prim.Native.Nat.{◌+◌, ◌<◌}
 use mathlib.Core.Path.{◌≡◌, ap, subst⁻¹}
 use native.Mathlib.Omega.{arith}
 use lib.ListN.{set}

@@ -1,6 +1,5 @@
 -- `cells::size_of` meets its contract.
 use mathlib.Core.Path.{sym, ap}
-use borrow.Author.Rules.{rules}
 use Rattle.cascade.specs.Inner.Choices.{size_of}
 use Rattle.planner.proofs.cells.size_of.Goals as goal
 

@@ -4,7 +4,6 @@ use mathlib.Core.Path.{◌≡◌, ◌∙◌, ap, ap₂}
 use native.Mathlib.Omega.{arith}
 use lib.Pow.{pow_pos}
 use mir.Facts.{Fits-of_lt}
-use borrow.Author.Rules.{rules}
 use Rattle.numbers.specs.Widths.{rail_width}
 use Rattle.numbers.specs.Laws.Pieces.{shifted_one}
 use Rattle.numbers.specs.Laws.Widths.{rail_width_least}

@@ -1,6 +1,5 @@
 -- `choices::cheaper` meets its contract.
 use mathlib.Core.Path.{sym, ◌∙◌, ap}
-use borrow.Author.Rules.{rules}
 use borrow.Author.Tests.{lt-ltb, le-ltb}
 use Rattle.cascade.specs.Inner.Choices.{taken}
 use Rattle.planner.proofs.choices.cheaper.Goals as goal
@@ -13,12 +12,12 @@ pub returns-then-cost-least : goal.returns-then-cost-least
 unfolding taken
 returns-then-cost-least c =
     let a = c.args in
-    let least = c.in-Costing.FIELDS.0 in
+    let least = c.in-Costing.least in
     sym (ap (taken a.size a.cost) c.in-Costing.is ∙ rw (lt-ltb a.cost least c.if-cost-least.true, taken))
 
 pub returns-else-cost-least : goal.returns-else-cost-least
 unfolding taken
 returns-else-cost-least c =
     let a = c.args in
-    let least = c.in-Costing.FIELDS.least in
+    let least = c.in-Costing.least in
     sym (ap (taken a.size a.cost) c.in-Costing.is ∙ rw (le-ltb a.cost least c.if-cost-least.false, taken))

@@ -1,16 +1,15 @@
 -- `choices::choose` meets its contract. The loop's invariant: the sizes still to be tried lead to the choice.
 use Prim.Native.Nat.{◌+◌, ◌-◌, ◌≤◌}
 use mathlib.Core.Path.{sym, ◌∙◌, ap}
-use mathlib.Core.Logic.{⊎_elim}
 use native.Mathlib.Omega.{arith}
 use lib.ListN.{get_or}
 use mir.Facts.{Fits-of_lt}
 use Rattle.cascade.specs.Inner.Choices.{offered}
 use Rattle.cascade.specs.declared.Choice.TheVariants.{NoList}
 use Rattle.planner.specs.Laws.Pricing.{address_ready, fits_is}
-use Rattle.planner.specs.Laws.Choosing.{Trying, trying_all, size_ready, tried_fitting, tried_unfitting, tried_all, cuts_small, offer_small}
+use Rattle.planner.specs.Laws.Choosing.{trying_all, size_ready, tried_fitting, tried_unfitting, tried_all, cuts_small, offer_small}
 use Rattle.planner.proofs.choices.choose.Goals as goal
-use Rattle.planner.proofs.choices.choose.Goals.{In-loop-g}
+use Rattle.planner.proofs.choices.choose.Goals.{In-loop-g, then-cell_fits, else-cell_fits}
 
 pub overflow_sub-g : goal.overflow_sub-g
 overflow_sub-g c = let l = c.requires.cut in omega arith
@@ -56,12 +55,12 @@ loop-g-preserved c =
     let best = i.loop-g.best in
     let g = i.loop-g.g in
     let fits = c.cell_fits.ensures ∙ fits_is (size_ready c.requires g (within i)) c.requires.rows.counted c.args.limit in
-    ⊎_elim
-    (λ w.
-    rw (w.4 ∙ w.3.ensures ∙ ap (λ price. offered g price (get_or c.args.t7 (c.args.h + g) NoList) best) w.1.ensures)
-    (tried_fitting c.requires best g i.loop-g.invariant i.loop-g-test.true (sym fits ∙ w.0.true)))
-    (λ w. rw w.1 (tried_unfitting c.requires best g i.loop-g.invariant i.loop-g-test.true (sym fits ∙ w.0.left)))
-    c.if-cell_fits.branch
+    elim c.if-cell_fits.branch [
+      | then-cell_fits w ↦
+          rw (w.best-is ∙ w.offer-best.ensures ∙ ap (λ price. offered g price (get_or c.args.choices (c.args.h + g) NoList) best) w.cell_price-price.ensures)
+          (tried_fitting c.requires best g i.loop-g.invariant i.loop-g-test.true (sym fits ∙ w.if-cell_fits.true))
+      | else-cell_fits w ↦ rw w.best-is (tried_unfitting c.requires best g i.loop-g.invariant i.loop-g-test.true (sym fits ∙ w.if-cell_fits.false))
+    ]
 
 pub returns : goal.returns
 returns c = tried_all c.requires c.loop-g.best c.loop-g.g c.loop-g.invariant (let l = c.loop-g-test.false in omega arith)

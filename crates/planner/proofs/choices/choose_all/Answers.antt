@@ -4,7 +4,7 @@ use mathlib.Core.Path.{◌≡◌}
 use native.Mathlib.Omega.{arith}
 use mir.Facts.{Fits-of_lt}
 use Rattle.cascade.specs.Laws.Cells.{variables_most}
-use Rattle.planner.specs.Laws.Choosing.{ChosenFrom, chosen_bottom, chosen_next, chosen_all, cut_ready}
+use Rattle.planner.specs.Laws.Choosing.{chosen_bottom, chosen_next, chosen_all, cut_ready}
 use Rattle.planner.proofs.choices.choose_all.Goals as goal
 use Rattle.planner.proofs.choices.choose_all.Goals.{After-choose-choice, Start}
 

@@ -2,7 +2,6 @@
 use mathlib.Core.Path.{sym, ◌∙◌, ap}
 use native.Mathlib.Omega.{arith}
 use mir.Facts.{Fits-of_lt}
-use borrow.Author.Rules.{rules}
 use Rattle.cascade.specs.Inner.Choices.{offered, cost_of}
 use Rattle.planner.proofs.choices.offer.Goals as goal
 

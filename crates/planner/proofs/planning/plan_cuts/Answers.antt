@@ -2,7 +2,6 @@
 use mathlib.Core.Path.{◌≡◌, sym, ◌∙◌, ap, subst⁻¹}
 use native.Mathlib.Omega.{arith}
 use lib.ListN.{get_or}
-use borrow.Author.Rules.{rules}
 use Rattle.cascade.specs.Plan.{Plans}
 use Rattle.cascade.specs.Inner.Choices.{table_choice}
 use Rattle.cascade.specs.declared.Choice.TheVariants.{NoList}
@@ -35,8 +34,8 @@ chosen c =
     let d = (goal.at.list_cells-requires c).After-choose_all-choices in
     record {
       known = known d;
-      cost = c.in-Costing.FIELDS.0;
-      size = c.in-Costing.FIELDS.1.0;
+      cost = c.in-Costing.cost;
+      size = c.in-Costing.size;
       some = sym (is_top d) ∙ c.in-Costing.is;
     }
 
@@ -46,13 +45,13 @@ list_cells-requires c = chosen c
 pub returns-in_default : goal.returns-in_default
 returns-in_default c =
     let d = (goal.at.returns-in_default c).After-choose_all-choices in
-    let s = start d in
-    subst⁻¹ (λ (r : Planned). Plans s.args.n s.args.table.now s.args.limit r) c.refused_plan.ensures
-    (refused_plans s.args.n s.args.table.now s.args.limit 9 (plan_none s.args.n s.args.table.now s.args.limit s.pre.0.0.admitted s.pre.0.1 (sym (is_top d) ∙ c.in_default.is)))
+    let a = c.args in
+    subst⁻¹ (λ (r : Planned). Plans a.n a.table.now a.limit r) c.refused_plan.ensures
+    (refused_plans a.n a.table.now a.limit 9 (plan_none a.n a.table.now a.limit c.requires.rows_known.0.admitted c.requires.rows_known.1 (sym (is_top d) ∙ c.in_default.is)))
 
 pub returns : goal.returns
 unfolding known chosen
 returns c =
-    let s = start (goal.at.returns c).After-choose_all-choices in
-    subst⁻¹ (λ (r : Planned). Plans s.args.n s.args.table.now s.args.limit r) c.list_cells.ensures
-    (listed_plans (chosen (goal.at.returns c).In-Costing) s.pre.0.1)
+    let a = c.args in
+    subst⁻¹ (λ (r : Planned). Plans a.n a.table.now a.limit r) c.list_cells.ensures
+    (listed_plans (chosen (goal.at.returns c).In-Costing) c.requires.rows_known.1)

@@ -7,7 +7,6 @@ use lib.ListN.{length}
 use lib.Seq.{length-take-le}
 use lib.Pow.{pow_pos, pow_mono}
 use mir.Facts.{Fits-of_lt}
-use borrow.Author.Rules.{rules}
 use Rattle.numbers.specs.Laws.Rows.{filled_front}
 use Rattle.blocks.specs.Rows.{cut_place, all_numbers, all_firsts, all_counts}
 use Rattle.blocks.specs.Laws.Places.{length_numbers, length_firsts, length_counts}
@@ -34,13 +33,13 @@ module _ (c : After-power-places) where
   few_places = let e = c.power-places.ensures in let p = pow_mono {i = c.args.n + 1} {j = 13} (let f = few (goal.at.overflow_sub-places c).Start in omega arith) in omega arith
 
   in_classes : c.power-places.result - 1 ≤ length c.args.classes.now
-  in_classes = let f = few_places in let r = c.requires.1.class_places in omega arith
+  in_classes = let f = few_places in let r = c.requires.rows_room.class_places in omega arith
 
   in_firsts : c.power-places.result - 1 ≤ length c.args.firsts.now
-  in_firsts = let f = few_places in let r = c.requires.1.first_places in omega arith
+  in_firsts = let f = few_places in let r = c.requires.rows_room.first_places in omega arith
 
   in_counts : c.args.n + 1 ≤ length c.args.counts.now
-  in_counts = let f = few (goal.at.overflow_sub-places c).Start in let r = c.requires.1.count_places in omega arith
+  in_counts = let f = few (goal.at.overflow_sub-places c).Start in let r = c.requires.rows_room.count_places in omega arith
 
 pub overflow_sub-places : goal.overflow_sub-places
 overflow_sub-places c = rw c.power-places.ensures (pow_pos (c.args.n + 1))
@@ -78,10 +77,11 @@ pub returns : goal.returns
 returns c =
     let k = c.plan_table in
     let p = (goal.at.returns c).After-power-places in
-    let a = c.args in record { plans = k.ensures.0; rows_filled = (
-      record {
-        numbered = filled_front a.classes.now (all_numbers a.n a.table.now) k.ensures.1.numbered (places p ∙ sym (length_numbers a.n a.table.now));
-        placed = filled_front a.firsts.now (all_firsts a.n a.table.now) k.ensures.1.placed (places p ∙ sym (length_firsts a.n a.table.now));
-        counted = filled_front a.counts.now (all_counts a.n a.table.now) k.ensures.1.counted (add-one a.n ∙ sym (length_counts a.n a.table.now));
-      },
-    ) }
+    let a = c.args in record {
+      plans = k.ensures.plans;
+      rows_filled = record {
+        numbered = filled_front a.classes.now (all_numbers a.n a.table.now) k.ensures.all_classed.numbered (places p ∙ sym (length_numbers a.n a.table.now));
+        placed = filled_front a.firsts.now (all_firsts a.n a.table.now) k.ensures.all_classed.placed (places p ∙ sym (length_firsts a.n a.table.now));
+        counted = filled_front a.counts.now (all_counts a.n a.table.now) k.ensures.all_classed.counted (add-one a.n ∙ sym (length_counts a.n a.table.now));
+      };
+    }

@@ -3,7 +3,6 @@ use Prim.Native.Nat.{◌+◌}
 use mathlib.Core.Path.{◌∙◌, ap, ap₂}
 use native.Mathlib.Omega.{arith}
 use mir.Facts.{Fits-of_lt}
-use borrow.Author.Rules.{rules}
 use Rattle.numbers.specs.Widths.{cell_bits}
 use Rattle.blocks.specs.Classes.{class_count}
 use Rattle.planner.specs.Laws.Pricing.{cut_small, end_small, entering_place, leaving_place, entering, leaving, price_fits, price_is}

@@ -1,5 +1,5 @@
 -- `prices::cell_width` meets its contract. The loop's invariant: the extremes with the classes so far.
-use Prim.Native.Nat.{◌+◌, ◌-◌, ◌*◌, ◌^◌, ◌≤◌, ◌<◌}
+use Prim.Native.Nat.{◌+◌, ◌*◌, ◌^◌, ◌<◌}
 use mathlib.Core.Path.{◌≡◌, sym, ◌∙◌, ap, ap₂}
 use mathlib.Core.List.{[], ◌∷◌}
 use native.Mathlib.Nat.{zero-mul, add-mul}
@@ -7,7 +7,6 @@ use native.Mathlib.Omega.{arith}
 use lib.ListN.{length}
 use mir.Syntax.{w32}
 use mir.Facts.{to_z-of_z, Fits-of_lt}
-use borrow.Author.Rules.{rules}
 use Rattle.numbers.specs.Widths.{weight_width}
 use Rattle.blocks.specs.Classes.{class_count}
 use Rattle.cascade.specs.Cascade.{words_of}

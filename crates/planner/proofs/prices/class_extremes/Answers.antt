@@ -1,7 +1,6 @@
 -- `prices::class_extremes` meets its contract. The loop's invariant: the extremes with the words so far.
 use Prim.Native.Nat.{ℕ, suc, ◌+◌, ◌-◌, ◌*◌, ◌^◌, ◌≤◌, ◌<◌}
 use mathlib.Core.Path.{◌≡◌, sym, ◌∙◌, ap, ap₂}
-use mathlib.Core.List.{List}
 use native.Mathlib.Nat.{add-zero, add-mul, le_of_mul-le-mul_right, lt_of_mul-lt-mul_right}
 use native.Mathlib.Omega.{arith}
 use lib.ListN.{length, get_or}
@@ -10,7 +9,7 @@ use lib.IntN.{ℤ, pos, ◌-ℤ◌}
 use mir.Syntax.{w32}
 use mir.Val.{of_z, to_z, SFits}
 use mir.Facts.{to_z-of_z, Fits-of_lt}
-use borrow.Author.Rules.{rules, sfits_of}
+use borrow.Author.Rules.{sfits_of}
 use Rattle.numbers.specs.Ranges.{lesser, greater}
 use Rattle.blocks.specs.Rows.{cut_place}
 use Rattle.cascade.specs.Inner.Words.{cell_word}
@@ -18,7 +17,6 @@ use Rattle.cascade.specs.Laws.Cells.{variables_most}
 use Rattle.cascade.specs.Laws.Words.{sub_blocks}
 use Rattle.planner.specs.Inner.Extremes.{extremes_of}
 use Rattle.planner.specs.Laws.Pricing.{cut_small, end_small, height_small, lower_small, first_place, from_inside, weight_inside, weight_at_lem, weight_small, one_of_words, extremes_next, values_most}
-use Rattle.planner.proofs.prices.class_extremes.Invariants.{Gathered}
 use Rattle.planner.proofs.prices.class_extremes.Goals as goal
 use Rattle.planner.proofs.prices.class_extremes.Goals.{After-in_cut, After-weight-1, In-loop-place}
 
@@ -123,17 +121,17 @@ bounds-table-place c = place_inside c
 -- The values that were read, and their difference.
 module _ (c : After-weight-1) where
   abbrev weight : ℤ
-  weight = (cell_word c.args.n c.args.table.now c.args.h c.args.g (c.args.class * 2 ^ c.args.g + v (goal.at.overflow_sub-weight c).In-loop-place)).weight-1
+  weight = (cell_word c.args.n c.args.table.now c.args.h c.args.g (c.args.class * 2 ^ c.args.g + v (goal.at.overflow_sub-weight c).In-loop-place)).weight
 
   difference : to_z w32 (of_z w32 (get_or c.args.table.now c.loop-place.place (pos 0))) -ℤ to_z w32 (of_z w32 (get_or c.args.table.now (start (goal.at.overflow_sub-weight c).After-in_cut) (pos 0))) ≡ weight
   difference =
       ap₂ ◌-ℤ◌
       (to_z-of_z {w = w32} (record { sfits = c.weight-1.given }) ∙ ap (λ p. get_or c.args.table.now p (pos 0)) (is_place (goal.at.overflow_sub-weight c).In-loop-place))
       (to_z-of_z {w = w32} (record { sfits = c.from-1.given }) ∙ ap (λ p. get_or c.args.table.now p (pos 0)) (is_start (goal.at.overflow_sub-weight c).After-in_cut))
-      ∙ weight_at_lem c.requires.0.0 c.args.class (v (goal.at.overflow_sub-weight c).In-loop-place) c.requires.0.1 (below (goal.at.overflow_sub-weight c).In-loop-place)
+      ∙ weight_at_lem c.requires.cell_ready.0 c.args.class (v (goal.at.overflow_sub-weight c).In-loop-place) c.requires.cell_ready.1 (below (goal.at.overflow_sub-weight c).In-loop-place)
 
   weight_holds : SFits w32 weight
-  weight_holds = weight_small c.requires.0.0 c.args.class (v (goal.at.overflow_sub-weight c).In-loop-place) c.requires.0.1 (below (goal.at.overflow_sub-weight c).In-loop-place)
+  weight_holds = weight_small c.requires.cell_ready.0 c.args.class (v (goal.at.overflow_sub-weight c).In-loop-place) c.requires.cell_ready.1 (below (goal.at.overflow_sub-weight c).In-loop-place)
 
 pub overflow_sub-weight : goal.overflow_sub-weight
 overflow_sub-weight c = rw (difference c) (weight_holds c)
@@ -151,16 +149,16 @@ loop-place-preserved c =
     let k = c.args in
     let low = to_z w32 t.loop-place.least-bits in
     let high = to_z w32 t.loop-place.greatest-bits in
-    let e = ap (λ z. to_z w32 (of_z w32 z)) (difference w) ∙ to_z-of_z (weight_holds w) in
-    let least : to_z w32 (of_z w32 c.lesser_of-least.result) ≡ lesser low (weight w) = to_z-of_z (sfits_of c.lesser_of-least.type_inv) ∙ c.lesser_of-least.ensures ∙ ap (lesser low) e in
-    let greatest : to_z w32 (of_z w32 c.greater_of-greatest.result) ≡ greater high (weight w) = to_z-of_z (sfits_of c.greater_of-greatest.type_inv) ∙ c.greater_of-greatest.ensures ∙ ap (greater high) e in
+    let e = ap (λ z. to_z w32 (of_z w32 z)) (difference w) ∙ to_z-of_z {w = w32} (weight_holds w) in
+    let least : to_z w32 (of_z w32 c.lesser_of-least.result) ≡ lesser low (weight w) = to_z-of_z {w = w32} (sfits_of c.lesser_of-least.type_inv) ∙ c.lesser_of-least.ensures ∙ ap (lesser low) e in
+    let greatest : to_z w32 (of_z w32 c.greater_of-greatest.result) ≡ greater high (weight w) = to_z-of_z {w = w32} (sfits_of c.greater_of-greatest.type_inv) ∙ c.greater_of-greatest.ensures ∙ ap (greater high) e in
     record {
       passed = v t + 1;
       most = let l = below t in omega arith;
       reached = let r = t.loop-place.invariant.reached in omega (arith, add-mul (v t) 1 (step (goal.at.loop-place-preserved c).After-in_cut));
       extremes =
           ap₂ (λ x y. record { least = x; greatest = y }) least greatest
-          ∙ extremes_next k.n k.table.now k.h k.g (k.class * 2 ^ k.g + v t) low high t.loop-place.invariant.extremes (one_of_words c.requires.0.0 k.class (v t) c.requires.0.1 (below t))
+          ∙ extremes_next k.n k.table.now k.h k.g (k.class * 2 ^ k.g + v t) low high t.loop-place.invariant.extremes (one_of_words c.requires.cell_ready.0 k.class (v t) c.requires.cell_ready.1 (below t))
           ∙ ap (extremes_of k.n k.table.now k.h k.g) (let n : suc (k.class * 2 ^ k.g + v t) ≡ k.class * 2 ^ k.g + (v t + 1) = omega arith in n);
     }
 

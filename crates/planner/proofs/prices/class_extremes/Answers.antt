@@ -86,13 +86,12 @@ bounds-table-start c = start_inside c
 
 pub loop-place-init : goal.loop-place-init
 loop-place-init c =
-    let told = c.struct_told-1.given in
     record {
       passed = 0;
       most = omega arith;
       reached = omega arith;
       extremes =
-          ap₂ (λ a b. record { least = a; greatest = b }) (to_z-of_z {w = w32} (record { sfits = told.0.1 })) (to_z-of_z {w = w32} (record { sfits = told.1.0.1 }))
+          ap₂ (λ a b. record { least = a; greatest = b }) (to_z-of_z {w = w32} (record { sfits = search rules })) (to_z-of_z {w = w32} (record { sfits = search rules }))
           ∙ c.requires.gathered_value
           ∙ ap (extremes_of c.args.n c.args.table.now c.args.h c.args.g) (sym (add-zero (c.args.class * 2 ^ c.args.g)));
     }
@@ -128,8 +127,8 @@ module _ (c : After-weight-1) where
   difference : to_z w32 (of_z w32 (get_or c.args.table.now c.loop-place.place (pos 0))) -ℤ to_z w32 (of_z w32 (get_or c.args.table.now (start (goal.at.overflow_sub-weight c).After-in_cut) (pos 0))) ≡ weight
   difference =
       ap₂ ◌-ℤ◌
-      (to_z-of_z {w = w32} (record { sfits = c.weight-1.given }) ∙ ap (λ p. get_or c.args.table.now p (pos 0)) (is_place (goal.at.overflow_sub-weight c).In-loop-place))
-      (to_z-of_z {w = w32} (record { sfits = c.from-1.given }) ∙ ap (λ p. get_or c.args.table.now p (pos 0)) (is_start (goal.at.overflow_sub-weight c).After-in_cut))
+      (to_z-of_z {w = w32} (record { sfits = search rules }) ∙ ap (λ p. get_or c.args.table.now p (pos 0)) (is_place (goal.at.overflow_sub-weight c).In-loop-place))
+      (to_z-of_z {w = w32} (record { sfits = search rules }) ∙ ap (λ p. get_or c.args.table.now p (pos 0)) (is_start (goal.at.overflow_sub-weight c).After-in_cut))
       ∙ weight_at_lem c.requires.cell_ready.0 c.args.class (v (goal.at.overflow_sub-weight c).In-loop-place) c.requires.cell_ready.1 (below (goal.at.overflow_sub-weight c).In-loop-place)
 
   weight_holds : SFits w32 weight

@@ -44,10 +44,9 @@ pub returns : goal.returns
 returns c =
     let a = c.args in
     let l = c.loop-class in
-    let told = c.struct_told-1.given in
     let all : l.class * 2 ^ a.g ≡ length (words_of a.n a.table.now a.h a.g) =
     ap (λ k. k * 2 ^ a.g) (let o = c.loop-class-test.false in let i = l.invariant.0 in let q = c.requires.1 in let same : l.class ≡ class_count a.n a.table.now a.h = omega arith in same)
     ∙ sym (words_count a.n a.table.now a.h a.g) in
     c.weight_width.ensures
-    ∙ ap₂ (λ x y. weight_width (x ∷ y ∷ [])) (to_z-of_z {w = w32} (record { sfits = told.0.1 })) (to_z-of_z {w = w32} (record { sfits = told.1.0.1 }))
+    ∙ ap₂ (λ x y. weight_width (x ∷ y ∷ [])) (to_z-of_z {w = w32} (record { sfits = search rules })) (to_z-of_z {w = w32} (record { sfits = search rules }))
     ∙ extremes_all a.n a.table.now a.h a.g (l.class * 2 ^ a.g) l.gathered l.invariant.1 all

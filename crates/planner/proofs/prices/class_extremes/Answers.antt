@@ -18,7 +18,7 @@ use Rattle.cascade.specs.Laws.Words.{sub_blocks}
 use Rattle.planner.specs.Inner.Extremes.{extremes_of}
 use Rattle.planner.specs.Laws.Pricing.{cut_small, end_small, height_small, lower_small, first_place, from_inside, weight_inside, weight_at_lem, weight_small, one_of_words, extremes_next, values_most}
 use Rattle.planner.proofs.prices.class_extremes.Goals as goal
-use Rattle.planner.proofs.prices.class_extremes.Goals.{After-in_cut, After-weight-1, In-loop-place}
+use Rattle.planner.proofs.prices.class_extremes.Goals.{After-in_cut, In-loop-place}
 
 pub overflow_sub-n : goal.overflow_sub-n
 overflow_sub-n c = let e = c.requires.cell_ready.0.ends in omega arith
@@ -84,13 +84,12 @@ bounds-table-start c = start_inside c
 
 pub loop-place-init : goal.loop-place-init
 loop-place-init c =
-    let told = c.struct_told-1.given in
     record {
       passed = 0;
       most = omega arith;
       reached = omega arith;
       extremes =
-          ap₂ (λ a b. record { least = a; greatest = b }) (to_z-of_z {w = w32} (record { sfits = told.0.1 })) (to_z-of_z {w = w32} (record { sfits = told.1.0.1 }))
+          ap₂ (λ a b. record { least = a; greatest = b }) (to_z-of_z {w = w32} (record { sfits = search rules })) (to_z-of_z {w = w32} (record { sfits = search rules }))
           ∙ c.requires.gathered_value
           ∙ ap (extremes_of c.args.n c.args.table.now c.args.h c.args.g) (sym (add-zero (c.args.class * 2 ^ c.args.g)));
     }
@@ -119,22 +118,22 @@ pub bounds-table-place : goal.bounds-table-place
 bounds-table-place c = place_inside c
 
 -- The values that were read, and their difference.
-module _ (c : After-weight-1) where
+module _ (c : In-loop-place) where
   abbrev weight : ℤ
-  weight = (cell_word c.args.n c.args.table.now c.args.h c.args.g (c.args.class * 2 ^ c.args.g + v (goal.at.overflow_sub-weight c).In-loop-place)).weight
+  weight = (cell_word c.args.n c.args.table.now c.args.h c.args.g (c.args.class * 2 ^ c.args.g + v c)).weight
 
-  difference : to_z w32 (of_z w32 (get_or c.args.table.now c.loop-place.place (pos 0))) -ℤ to_z w32 (of_z w32 (get_or c.args.table.now (start (goal.at.overflow_sub-weight c).After-in_cut) (pos 0))) ≡ weight
-  difference =
+  difference : SFits w32 (get_or c.args.table.now c.loop-place.place (pos 0)) → SFits w32 (get_or c.args.table.now (start (goal.at.offset_bounds-table-place c).After-in_cut) (pos 0)) → to_z w32 (of_z w32 (get_or c.args.table.now c.loop-place.place (pos 0))) -ℤ to_z w32 (of_z w32 (get_or c.args.table.now (start (goal.at.offset_bounds-table-place c).After-in_cut) (pos 0))) ≡ weight
+  difference here first =
       ap₂ ◌-ℤ◌
-      (to_z-of_z {w = w32} (record { sfits = c.weight-1.given }) ∙ ap (λ p. get_or c.args.table.now p (pos 0)) (is_place (goal.at.overflow_sub-weight c).In-loop-place))
-      (to_z-of_z {w = w32} (record { sfits = c.from-1.given }) ∙ ap (λ p. get_or c.args.table.now p (pos 0)) (is_start (goal.at.overflow_sub-weight c).After-in_cut))
-      ∙ weight_at_lem c.requires.cell_ready.0 c.args.class (v (goal.at.overflow_sub-weight c).In-loop-place) c.requires.cell_ready.1 (below (goal.at.overflow_sub-weight c).In-loop-place)
+      (to_z-of_z {w = w32} here ∙ ap (λ p. get_or c.args.table.now p (pos 0)) (is_place c))
+      (to_z-of_z {w = w32} first ∙ ap (λ p. get_or c.args.table.now p (pos 0)) (is_start (goal.at.offset_bounds-table-place c).After-in_cut))
+      ∙ weight_at_lem c.requires.cell_ready.0 c.args.class (v c) c.requires.cell_ready.1 (below c)
 
   weight_holds : SFits w32 weight
-  weight_holds = weight_small c.requires.cell_ready.0 c.args.class (v (goal.at.overflow_sub-weight c).In-loop-place) c.requires.cell_ready.1 (below (goal.at.overflow_sub-weight c).In-loop-place)
+  weight_holds = weight_small c.requires.cell_ready.0 c.args.class (v c) c.requires.cell_ready.1 (below c)
 
 pub overflow_sub-weight : goal.overflow_sub-weight
-overflow_sub-weight c = rw (difference c) (weight_holds c)
+overflow_sub-weight c = let t = (goal.at.overflow_sub-weight c).In-loop-place in rw (difference t (record { sfits = search rules }) (record { sfits = search rules })) (weight_holds t)
 
 pub overflow_add-place : goal.overflow_add-place
 overflow_add-place c = let t = (goal.at.overflow_add-place c).In-loop-place in let l = place_small t in let m = step_small (goal.at.overflow_add-place c).After-in_cut in Fits-of_lt (omega arith)
@@ -144,14 +143,13 @@ loop-place-smaller c = let l = c.loop-place-test.true in let p = some (goal.at.l
 
 pub loop-place-preserved : goal.loop-place-preserved
 loop-place-preserved c =
-    let w = (goal.at.loop-place-preserved c).After-weight-1 in
     let t = (goal.at.loop-place-preserved c).In-loop-place in
     let k = c.args in
     let low = to_z w32 t.loop-place.least-bits in
     let high = to_z w32 t.loop-place.greatest-bits in
-    let e = ap (λ z. to_z w32 (of_z w32 z)) (difference w) ∙ to_z-of_z {w = w32} (weight_holds w) in
-    let least : to_z w32 (of_z w32 c.lesser_of-least.result) ≡ lesser low (weight w) = to_z-of_z {w = w32} (sfits_of c.lesser_of-least.type_inv) ∙ c.lesser_of-least.ensures ∙ ap (lesser low) e in
-    let greatest : to_z w32 (of_z w32 c.greater_of-greatest.result) ≡ greater high (weight w) = to_z-of_z {w = w32} (sfits_of c.greater_of-greatest.type_inv) ∙ c.greater_of-greatest.ensures ∙ ap (greater high) e in
+    let e = ap (λ z. to_z w32 (of_z w32 z)) (difference t (record { sfits = search rules }) (record { sfits = search rules })) ∙ to_z-of_z {w = w32} (weight_holds t) in
+    let least : to_z w32 (of_z w32 c.lesser_of-least.result) ≡ lesser low (weight t) = to_z-of_z {w = w32} (sfits_of c.lesser_of-least.type_inv) ∙ c.lesser_of-least.ensures ∙ ap (lesser low) e in
+    let greatest : to_z w32 (of_z w32 c.greater_of-greatest.result) ≡ greater high (weight t) = to_z-of_z {w = w32} (sfits_of c.greater_of-greatest.type_inv) ∙ c.greater_of-greatest.ensures ∙ ap (greater high) e in
     record {
       passed = v t + 1;
       most = let l = below t in omega arith;

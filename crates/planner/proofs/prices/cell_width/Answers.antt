@@ -1,4 +1,5 @@
 -- `prices::cell_width` meets its contract. The loop's invariant: the extremes with the classes so far.
+use borrow.Author.Rules.{rules}
 use Prim.Native.Nat.{◌+◌, ◌*◌, ◌^◌, ◌<◌}
 use mathlib.Core.Path.{◌≡◌, sym, ◌∙◌, ap, ap₂}
 use mathlib.Core.List.{[], ◌∷◌}

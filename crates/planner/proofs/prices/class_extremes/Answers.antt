@@ -9,7 +9,7 @@ use lib.IntN.{ℤ, pos, ◌-ℤ◌}
 use mir.Syntax.{w32}
 use mir.Val.{of_z, to_z, SFits}
 use mir.Facts.{to_z-of_z, Fits-of_lt}
-use borrow.Author.Rules.{sfits_of}
+use borrow.Author.Rules.{sfits_of, rules}
 use Rattle.numbers.specs.Ranges.{lesser, greater}
 use Rattle.blocks.specs.Rows.{cut_place}
 use Rattle.cascade.specs.Inner.Words.{cell_word}

@@ -8,7 +8,7 @@ use lib.ListN.{length, get_or}
 use lib.Pow.{pow_pos}
 use lib.IntN.{pos}
 use mir.Facts.{to_z-of_z}
-use borrow.Author.Rules.{rules, scaled_Fits}
+use borrow.Author.Rules.{scaled_Fits}
 use Rattle.blocks.specs.Blocks.{first}
 use Rattle.blocks.specs.Laws.Blocks.{block_at}
 use Rattle.blocks.proofs.first_of_block.Goals as goal

@@ -1,7 +1,7 @@
 -- Parts of a table, and the rows of all cuts: what the functions are lent and leave.
 use Rattle.std.specs.Prelude.{ℕ, suc, ◌-◌, ◌*◌, ◌^◌, ◌≤◌, ◌≡◌, List, [], map, length, get_or, take, drop, ℤ, pos, ◌-ℤ◌}
 use Rattle.numbers.specs.Ranges.{most_variables}
-use Rattle.blocks.specs.Blocks.{blocks, differences}
+use Rattle.blocks.specs.Blocks.{differences}
 use Rattle.blocks.specs.Classes.{classes}
 use Rattle.blocks.specs.Rows.{cut_place, all_numbers, all_firsts, all_counts}
 

@@ -1,6 +1,5 @@
 -- `builder::build` meets its contract.
 use mathlib.Core.Path.{sym, ◌∙◌, ap}
-use borrow.Author.Rules.{rules}
 use Rattle.numbers.specs.Inner.Checks.{checked}
 use Rattle.diagram.specs.Laws.Builds.{passed_table, build_unfit}
 use Rattle.builder.proofs.build.Goals as goal

@@ -1,10 +1,9 @@
 -- `classes::class_cuts` meets its contract. The loop's invariant: the rows hold the cuts before h. In a turn the parts of the rows that
 -- belong to cut h are lent and come back.
-use Prim.Native.Nat.{suc, ◌-◌, ◌≤◌}
+use Prim.Native.Nat.{suc, ◌≤◌}
 use mathlib.Core.Path.{◌≡◌, sym, ◌∙◌, subst}
 use native.Mathlib.Omega.{arith}
 use mir.Facts.{Fits-of_lt}
-use borrow.Author.Rules.{rules}
 use Rattle.numbers.specs.Ranges.{most_variables}
 use Rattle.classes.specs.Laws.CutRows.{CutAt, count_small, within_classes, within_firsts, within_tried, within_uses, within_use_counts, cut_room, cut_placed}
 use Rattle.classes.specs.Laws.AllCuts.{CutsSoFar, no_cut, cuts_next, cuts_done}

@@ -19,7 +19,7 @@ use Rattle.image.specs.WellFormed.{no_word, weights, KeepsCell, KeepsCellsBy, Ke
 use Rattle.image.specs.Laws.Bounds.{variables_most, cell_bits_most}
 use Rattle.image.specs.Laws.Images.{Holds, AllHold}
 use Rattle.image.specs.declared.Command.{Command}
-use Rattle.image.specs.declared.Command.TheVariants.{Cell, Word, End}
+use Rattle.image.specs.declared.Command.TheVariants.{End}
 
 -- ---- widths
 

@@ -1,5 +1,5 @@
 -- Run and Expand of an accepted image, and of one that is refused.
-use Rattle.std.specs.Prelude.{ℕ, ◌+◌, ◌-◌, ◌^◌, ◌≤◌, ◌<◌, ◌≡◌, refl, List, ◌++◌, map, ltb, eqb, length, ℤ}
+use Rattle.std.specs.Prelude.{ℕ, ◌^◌, ◌≤◌, ◌<◌, ◌≡◌, refl, List, ◌++◌, map, ltb, eqb, length, ℤ}
 use Rattle.std.proofs.Common.{sym, ◌∙◌, append-nil, arith, drop_of_length-le, lt-ltb, le-ltb, eq-eqb, ne_eqb}
 use Rattle.std.proofs.Math.Path.{ap}
 use Rattle.std.proofs.lemmas.List.{length-map}

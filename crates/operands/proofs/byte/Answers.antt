@@ -1,7 +1,6 @@
 -- `operands::byte` meets its contract.
 use mathlib.Core.Path.{refl}
 use native.Mathlib.Omega.{arith}
-use borrow.Author.Rules.{rules}
 use Rattle.operands.proofs.byte.Goals as goal
 
 pub overflow_cast-result : goal.overflow_cast-result

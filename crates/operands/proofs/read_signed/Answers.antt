@@ -3,7 +3,6 @@ use mathlib.Core.Path.{◌∙◌, ap}
 use mir.Syntax.{w32}
 use mir.Val.{to_z}
 use mir.Facts.{to_z-of_z}
-use borrow.Author.Rules.{rules}
 use Rattle.operands.specs.Bytes.{signed_at}
 use Rattle.operands.specs.Laws.Operands.{signed_upper, signed_upper_fits}
 use Rattle.operands.proofs.read_signed.Goals as goal

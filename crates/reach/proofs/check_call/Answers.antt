@@ -1,6 +1,5 @@
 -- `reacher::check_call` meets its contract.
 use mathlib.Core.Path.{◌≡◌, sym, ◌∙◌, ap}
-use borrow.Author.Rules.{rules}
 use Rattle.numbers.specs.Answers.{accepted, unless}
 use Rattle.numbers.specs.Ranges.{is_limit}
 use Rattle.numbers.specs.Inner.Checks.{checked}

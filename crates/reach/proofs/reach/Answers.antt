@@ -9,7 +9,6 @@ use lib.ListN.{length, take, length-append}
 use lib.Seq.{length-take-le, take_at}
 use lib.Pow.{pow_pos}
 use mir.Facts.{Fits-of_lt}
-use borrow.Author.Rules.{rules}
 use Rattle.numbers.specs.Ranges.{is_limit, most_variables}
 use Rattle.blocks.specs.Rows.{cut_place, all_counts}
 use Rattle.blocks.specs.Laws.Cuts.{places_most}
@@ -84,7 +83,8 @@ slice_bounds-class_table-end-4 c = sym (length-take-le _ _ (few_places (goal.at.
 pub class_table-requires : goal.class_table-requires
 unfolding most_variables
 class_table-requires c =
-    let p = (goal.at.class_table-requires c).After-power-places in record { cuts_room = (
+    let p = (goal.at.class_table-requires c).After-power-places in record {
+      cuts_room = (
         record {
           variables = few (goal.at.class_table-requires c).In-Passed;
           whole = (admitted (goal.at.class_table-requires c).In-Passed).0.size;
@@ -92,7 +92,9 @@ class_table-requires c =
           first_places = length-take-le _ _ (few_places p) ∙ places p;
         },
         length-take-le _ _ (few_places p) ∙ places p,
-      ); counts_len = length-take-le _ _ (few_counts p) ∙ add-one (n p) }
+      );
+      counts_len = length-take-le _ _ (few_counts p) ∙ add-one (n p);
+    }
 
 -- What the classing left in the row of the counts.
 module _ (c : After-class_table) where

@@ -8,7 +8,6 @@ use lib.ListN.{length, get_or, drop, length-drop}
 use lib.Seq.{take_all, get_or-drop}
 use lib.IntN.{pos, ◌-ℤ◌}
 use mir.Facts.{to_z-of_z}
-use borrow.Author.Rules.{rules}
 use Rattle.blocks.specs.Laws.Comparing.{last_of_values, last_of_none}
 use Rattle.blocks.proofs.comparing.last_difference.Goals as goal
 

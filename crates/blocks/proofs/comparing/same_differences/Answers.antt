@@ -8,7 +8,6 @@ use lib.ListN.{length, take, drop, length-drop}
 use lib.Seq.{take_all}
 use lib.IntN.{ℤ}
 use mir.Facts.{to_z-of_z}
-use borrow.Author.Rules.{rules}
 use Rattle.blocks.specs.Classes.{same}
 use Rattle.blocks.specs.Inner.Layout.{less}
 use Rattle.blocks.specs.Laws.Comparing.{none_left, none_right, by_one_constant}

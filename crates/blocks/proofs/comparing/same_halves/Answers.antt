@@ -5,7 +5,6 @@ use native.Mathlib.Omega.{arith}
 use lib.ListN.{length, take, drop, length-drop}
 use lib.Seq.{length-take-le, take_all}
 use Rattle.blocks.specs.Classes.{same}
-use borrow.Author.Rules.{rules}
 use Rattle.blocks.proofs.comparing.same_halves.Goals as goal
 
 pub slice_bounds-same_values-end : goal.slice_bounds-same_values-end

@@ -1,5 +1,5 @@
 -- `comparing::same_less` meets its contract. The loop's invariant: the values from x on decide.
-use Prim.Native.Nat.{ℕ, ◌-◌, ◌≤◌, ◌<◌}
+use Prim.Native.Nat.{ℕ, ◌<◌}
 use mathlib.Core.Path.{◌≡◌, refl, sym, ◌∙◌, ap}
 use mathlib.Core.List.{List}
 use native.Mathlib.Omega.{arith}
@@ -13,7 +13,6 @@ use Rattle.numbers.specs.Laws.Machine.{same_bits}
 use Rattle.blocks.specs.Classes.{same}
 use Rattle.blocks.specs.Inner.Layout.{less}
 use Rattle.blocks.specs.Laws.Comparing.{length_less, less_at, unlike_lengths, equal_here, unlike_here, all_equal}
-use Rattle.blocks.proofs.comparing.same_less.Invariants.{Deciding}
 use Rattle.blocks.proofs.comparing.same_less.Goals as goal
 use Rattle.blocks.proofs.comparing.same_less.Goals.{After-difference}
 

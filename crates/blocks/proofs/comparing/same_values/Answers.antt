@@ -1,6 +1,5 @@
 -- `comparing::same_values` meets its contract: nothing is taken from the values.
 use mathlib.Core.Path.{◌∙◌, ap}
-use borrow.Author.Rules.{rules}
 use Rattle.blocks.specs.Classes.{same}
 use Rattle.blocks.specs.Laws.Comparing.{less_nothing}
 use Rattle.blocks.proofs.comparing.same_values.Goals as goal

@@ -7,7 +7,7 @@ use native.Mathlib.Omega.{arith}
 use lib.Seq.{length-take-le}
 use lib.Pow.{pow_pos, pow_mono}
 use mir.Facts.{to_z-of_z}
-use borrow.Author.Rules.{rules, sfits_of}
+use borrow.Author.Rules.{sfits_of}
 use Rattle.blocks.specs.Rows.{cut_place}
 use Rattle.diagram.specs.Laws.Builds.{build_short, build_done}
 use Rattle.diagram.specs.Laws.Checks.{variables_range}

@@ -3,7 +3,6 @@ use Prim.Native.Nat.{◌≤◌}
 use mathlib.Core.Path.{sym, ◌∙◌}
 use lib.ListN.{length}
 use lib.Seq.{length-take-le}
-use borrow.Author.Rules.{rules}
 use Rattle.numbers.specs.Ranges.{most_variables}
 use Rattle.blocks.specs.Laws.Cuts.{places_most}
 use Rattle.diagram.specs.Laws.Checks.{variables_range}

@@ -1,9 +1,9 @@
 -- `builder::building::write_records` meets its contract. The loop's invariant: the heights up to i are placed.
-use Prim.Native.Nat.{◌-◌, ◌<◌}
-use mathlib.Core.Path.{◌≡◌, refl, sym, ◌∙◌}
+use Prim.Native.Nat.{◌<◌}
+use mathlib.Core.Path.{refl, sym, ◌∙◌}
 use native.Mathlib.Omega.{arith}
 use lib.ListN.{length, replicate, get_or-replicate}
-use Rattle.diagram.specs.Laws.AllRecords.{RecordsSoFar, records_start, buffer_kept, cuts_counted, cut_ready, records_next, records_done}
+use Rattle.diagram.specs.Laws.AllRecords.{records_start, buffer_kept, cuts_counted, cut_ready, records_next, records_done}
 use Rattle.builder.proofs.building.write_records.Goals as goal
 use Rattle.builder.proofs.building.write_records.Goals.{In-loop-i}
 

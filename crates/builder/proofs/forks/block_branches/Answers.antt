@@ -6,7 +6,6 @@ use native.Mathlib.Numerals.{add-one}
 use native.Mathlib.Omega.{arith}
 use lib.ListN.{length, take, drop}
 use mir.Facts.{Fits-of_lt}
-use borrow.Author.Rules.{rules}
 use Rattle.blocks.specs.Blocks.{block}
 use Rattle.blocks.specs.Classes.{same}
 use Rattle.blocks.specs.Laws.Blocks.{block_length, block_part}

@@ -3,7 +3,6 @@ use Prim.Native.Nat.{suc, ◌-◌}
 use mathlib.Core.Path.{◌∙◌, ap₂}
 use native.Mathlib.Numerals.{add-one}
 use native.Mathlib.Omega.{arith}
-use borrow.Author.Rules.{rules}
 use Rattle.blocks.specs.Blocks.{block}
 use Rattle.diagram.specs.Records.{branches}
 use Rattle.diagram.specs.Laws.FirstBlocks.{cut_small, half_small, first_place, first_within, first_branches}

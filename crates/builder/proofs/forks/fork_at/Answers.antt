@@ -8,7 +8,7 @@ use lib.IntN.{◌-ℤ◌}
 use mir.Syntax.{w32}
 use mir.Val.{of_z, to_z}
 use mir.Facts.{to_z-of_z}
-use borrow.Author.Rules.{rules, sfits_of}
+use borrow.Author.Rules.{sfits_of}
 use Rattle.blocks.specs.Blocks.{block, first}
 use Rattle.blocks.specs.Rows.{cut_place}
 use Rattle.diagram.specs.Laws.Forks.{low_class, high_class, cut_fits, first_small, low_class_place, high_class_place, low_node_place, high_node_place, half_fits, weight_place, fork_read, fork_is}

@@ -7,7 +7,7 @@ use lib.IntN.{◌-ℤ◌}
 use mir.Syntax.{w32}
 use mir.Val.{SFits, of_z, to_z}
 use mir.Facts.{to_z-of_z}
-use borrow.Author.Rules.{rules, sfits_of}
+use borrow.Author.Rules.{sfits_of}
 use Rattle.blocks.specs.Blocks.{block, first}
 use Rattle.diagram.specs.Laws.Forks.{doubled_inside, lower_inside, weight_fits}
 use Rattle.builder.proofs.forks.weight_of_block.Goals as goal

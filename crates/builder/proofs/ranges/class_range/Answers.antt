@@ -5,7 +5,6 @@ use native.Mathlib.Omega.{arith}
 use lib.ListN.{length, take, drop}
 use lib.Pow.{pow_pos}
 use mir.Facts.{Fits-of_lt}
-use borrow.Author.Rules.{rules}
 use Rattle.blocks.specs.Blocks.{block}
 use Rattle.blocks.specs.Inner.Layout.{class_at}
 use Rattle.blocks.specs.Laws.Blocks.{block_length, block_part}

@@ -1,15 +1,14 @@
 -- `ranges::range_of` meets its contract. The loop's invariant: the extremes of the differences so far.
-use Prim.Native.Nat.{ℕ, ◌-◌, ◌≤◌}
+use Prim.Native.Nat.{ℕ}
 use mathlib.Core.Path.{◌≡◌, sym, ◌∙◌, ap, ap₂}
-use mathlib.Core.List.{List}
 use native.Mathlib.Omega.{arith}
 use lib.ListN.{length, get_or, take}
 use lib.Seq.{take_all}
-use lib.IntN.{ℤ, pos, ◌-ℤ◌}
+use lib.IntN.{pos, ◌-ℤ◌}
 use mir.Syntax.{w32}
 use mir.Val.{SFits, of_z, to_z}
 use mir.Facts.{to_z-of_z, Fits-of_lt}
-use borrow.Author.Rules.{rules, sfits_of, scaled_Fits}
+use borrow.Author.Rules.{sfits_of, scaled_Fits}
 use Rattle.numbers.specs.Extremes.{least_of, greatest_of}
 use Rattle.numbers.specs.Ranges.{lesser, greater}
 use Rattle.numbers.specs.Laws.Extremal.{leasts, greatests}
@@ -17,7 +16,6 @@ use Rattle.blocks.specs.Blocks.{first, differences}
 use Rattle.blocks.specs.Laws.Differences.{length_differences}
 use Rattle.diagram.specs.Inner.Building.{range_of}
 use Rattle.builder.specs.Laws.Gathering.{extreme_first, extreme_next, difference_fits}
-use Rattle.builder.proofs.ranges.range_of.Invariants.{Gathered}
 use Rattle.builder.proofs.ranges.range_of.Goals as goal
 use Rattle.builder.proofs.ranges.range_of.Goals.{After-difference-1}
 

@@ -4,7 +4,7 @@ use mathlib.Core.Path.{ap}
 use native.Mathlib.Omega.{arith}
 use lib.ListN.{length, set}
 use lib.Pow.{pow_pos}
-use borrow.Author.Rules.{rules, scaled_Fits}
+use borrow.Author.Rules.{scaled_Fits}
 use Rattle.blocks.specs.Rows.{cut_place}
 use Rattle.builder.proofs.recorder.set_in_cut.Goals as goal
 use Rattle.builder.proofs.recorder.set_in_cut.Goals.{After-power}

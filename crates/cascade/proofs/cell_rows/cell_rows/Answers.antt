@@ -1,12 +1,12 @@
 -- `cell_rows::cell_rows` meets its contract. The loop's invariant: the rows of the cells so far.
-use Prim.Native.Nat.{ℕ, ◌-◌, ◌*◌}
+use Prim.Native.Nat.{ℕ, ◌*◌}
 use mathlib.Core.Path.{◌≡◌}
 use mathlib.Core.List.{List}
 use native.Mathlib.Omega.{arith}
 use lib.ListN.{length, replicate}
 use mir.Facts.{Fits-of_lt}
 use Rattle.cascade.specs.Plan.{no_cell}
-use Rattle.cascade.specs.Laws.Rows.{RowsTo, no_rows, row_more, all_rows}
+use Rattle.cascade.specs.Laws.Rows.{no_rows, row_more, all_rows}
 use Rattle.cascade.proofs.cell_rows.cell_rows.Goals as goal
 use Rattle.cascade.proofs.cell_rows.cell_rows.Goals.{Start}
 

@@ -6,7 +6,7 @@ use lib.IntN.{◌-ℤ◌}
 use mir.Syntax.{w32}
 use mir.Val.{of_z, to_z}
 use mir.Facts.{to_z-of_z}
-use borrow.Author.Rules.{rules, sfits_of}
+use borrow.Author.Rules.{sfits_of}
 use Rattle.numbers.specs.Laws.Pieces.{shifted_one}
 use Rattle.blocks.specs.Blocks.{block, first}
 use Rattle.cascade.specs.Inner.Words.{cell_word}

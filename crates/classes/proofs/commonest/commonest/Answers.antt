@@ -1,8 +1,7 @@
 -- `commonest::commonest` meets its contract. The loop's invariant: the class leads among the counts so far.
-use Prim.Native.Nat.{ℕ, ◌+◌, ◌-◌, ◌≤◌, ◌<◌}
+use Prim.Native.Nat.{ℕ, ◌+◌, ◌<◌}
 use mathlib.Core.Path.{◌≡◌, sym, ◌∙◌, ap, subst}
 use mathlib.Core.List.{List, [], ◌∷◌, ◌++◌}
-use mathlib.Core.Logic.{⊎_elim}
 use native.Mathlib.Numerals.{add-one}
 use native.Mathlib.Omega.{arith}
 use lib.ListN.{length, get_or, take}
@@ -46,14 +45,14 @@ loop-k-preserved c =
     let so_far : Common = record { class = led.class; uses = led.uses } in (
       (let l = below i in omega arith),
       elim c.if-uses-use_counts.branch [
-        then-uses-use_counts w ↦
-          subst (λ l. Leading l (record { class = c.if-uses-use_counts.class; uses = c.if-uses-use_counts.uses })) (longer i)
-          (subst (λ (common : Common). Leading (take (k i) (counts i) ++ get_or (counts i) (k i) 0 ∷ []) common) (λ t. record { class = (so_many i ∙ sym w.class-is) t; uses = sym w.uses-is t })
-          (greater_leads (take (k i) (counts i)) (get_or (counts i) (k i) 0) so_far led.invariant.1 w.if-uses-use_counts.true))
+        | then-uses-use_counts w ↦
+            subst (λ l. Leading l (record { class = c.if-uses-use_counts.class; uses = c.if-uses-use_counts.uses })) (longer i)
+            (subst (λ (common : Common). Leading (take (k i) (counts i) ++ get_or (counts i) (k i) 0 ∷ []) common) (λ t. record { class = (so_many i ∙ sym w.class-is) t; uses = sym w.uses-is t })
+            (greater_leads (take (k i) (counts i)) (get_or (counts i) (k i) 0) so_far led.invariant.1 w.if-uses-use_counts.true))
         | else-uses-use_counts w ↦
-          subst (λ l. Leading l (record { class = c.if-uses-use_counts.class; uses = c.if-uses-use_counts.uses })) (longer i)
-          (subst (λ (common : Common). Leading (take (k i) (counts i) ++ get_or (counts i) (k i) 0 ∷ []) common) (λ t. record { class = sym w.class-is t; uses = sym w.uses-is t })
-          (other_stays (take (k i) (counts i)) (get_or (counts i) (k i) 0) so_far led.invariant.1 (let l = w.if-uses-use_counts.false in omega arith)))
+            subst (λ l. Leading l (record { class = c.if-uses-use_counts.class; uses = c.if-uses-use_counts.uses })) (longer i)
+            (subst (λ (common : Common). Leading (take (k i) (counts i) ++ get_or (counts i) (k i) 0 ∷ []) common) (λ t. record { class = sym w.class-is t; uses = sym w.uses-is t })
+            (other_stays (take (k i) (counts i)) (get_or (counts i) (k i) 0) so_far led.invariant.1 (let l = w.if-uses-use_counts.false in omega arith)))
       ],
     )
 

@@ -1,5 +1,5 @@
 -- `cuts::class_cut` meets its contract. The loop's invariant: the rows hold what is known after the first j blocks.
-use Prim.Native.Nat.{◌-◌, ◌≤◌, ◌<◌}
+use Prim.Native.Nat.{◌≤◌, ◌<◌}
 use mathlib.Core.Path.{◌≡◌, refl, sym, ◌∙◌, subst}
 use native.Mathlib.Omega.{arith}
 use lib.ListN.{length, set}

@@ -3,7 +3,7 @@
 use Prim.Native.Nat.{◌+◌, ◌*◌, ◌/◌, ◌%◌, ◌^◌, ◌≤◌, ◌<◌}
 use mathlib.Core.Path.{◌≡◌}
 use mathlib.Core.List.{List}
-use mathlib.Core.Logic.{◌⊎◌, inl, inr, ⊎_elim}
+use mathlib.Core.Logic.{◌⊎◌, inl, inr}
 use native.Mathlib.Nat.{div-le_self}
 use native.Mathlib.Omega.{arith}
 use lib.ListN.{length}
@@ -57,7 +57,7 @@ module _ (c : Joined-j-eq0-2) where
 
   begins : ((c.args.j % 2 ≡ 0) × (c.if-j-eq0-2.from ≡ 0)) ⊎ ((c.args.j % 2 ≡ 0 → ⊥) × (c.if-j-eq0-2.from ≡ length taken / 2))
   begins = elim c.if-j-eq0-2.branch [
-    then-j-eq0-2 w ↦ inl (w.if-j-eq0-2.true, w.from-is)
+    | then-j-eq0-2 w ↦ inl (w.if-j-eq0-2.true, w.from-is)
     | else-j-eq0-2 w ↦ inr (w.if-j-eq0-2.false, w.from-is)
   ]
 

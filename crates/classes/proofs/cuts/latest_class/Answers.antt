@@ -3,7 +3,6 @@ use Prim.Native.Nat.{suc, ◌-◌}
 use mathlib.Core.Path.{◌≡◌, sym, ap}
 use native.Mathlib.Omega.{arith}
 use Rattle.classes.specs.Inner.Noting.{latest_class}
-use borrow.Author.Rules.{rules}
 use Rattle.classes.proofs.cuts.latest_class.Goals as goal
 
 pub returns-then-j-eq0 : goal.returns-then-j-eq0

@@ -4,7 +4,6 @@ use native.Mathlib.Omega.{arith}
 use lib.ListN.{length-set}
 use borrow.Author.Tests.{eq-eqb, ne_eqb}
 use Rattle.classes.specs.Inner.Noting.{count_noted, firsts_noted}
-use borrow.Author.Rules.{rules}
 use Rattle.classes.proofs.cuts.note_first.Goals as goal
 
 pub bounds-firsts-count : goal.bounds-firsts-count

@@ -2,7 +2,6 @@
 use mathlib.Core.Path.{refl}
 use native.Mathlib.Omega.{arith}
 use lib.ListN.{length-set}
-use borrow.Author.Rules.{rules}
 use Rattle.classes.specs.Inner.Noting.{uses_noted}
 use Rattle.classes.proofs.cuts.note_uses.Goals as goal
 

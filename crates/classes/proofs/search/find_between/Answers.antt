@@ -1,6 +1,6 @@
 -- `search::find_between` meets its contract. The loop's invariant: the first from the start on is the first from this class on. Assumes
 -- nothing.
-use Prim.Native.Nat.{◌-◌, ◌≤◌, ◌<◌}
+use Prim.Native.Nat.{◌≤◌, ◌<◌}
 use mathlib.Core.Path.{◌≡◌, refl, sym, ◌∙◌, ap}
 use mathlib.Core.Bool.{Bool}
 use mathlib.Core.List.{[]}

@@ -1,7 +1,6 @@
 -- `search::find_class` meets its contract.
 use mathlib.Core.Path.{refl}
 use Rattle.classes.specs.Inner.Searching.{looked_up, found_among}
-use borrow.Author.Rules.{rules}
 use Rattle.classes.proofs.search.find_class.Goals as goal
 
 pub returns : goal.returns

@@ -5,7 +5,6 @@ use native.Mathlib.Omega.{arith}
 use lib.ListN.{take, drop}
 use mir.Syntax.{w64}
 use mir.Val.{of_z}
-use borrow.Author.Rules.{rules}
 use Rattle.blocks.specs.Inner.Layout.{part, last_difference}
 use Rattle.blocks.specs.Laws.Comparing.{unlike_last}
 use Rattle.classes.proofs.search.same_other.Goals as goal

@@ -6,7 +6,6 @@ use lib.ListN.{take, drop}
 use Rattle.blocks.specs.Blocks.{differences}
 use Rattle.blocks.specs.Classes.{same}
 use Rattle.blocks.specs.Inner.Layout.{part}
-use borrow.Author.Rules.{rules}
 use Rattle.classes.proofs.search.same_part.Goals as goal
 
 pub returns : goal.returns

@@ -5,7 +5,6 @@ use native.Mathlib.Omega.{arith}
 use lib.ListN.{get_or-eq_default}
 use mir.Facts.{Fits-of_lt}
 use Rattle.classes.specs.Inner.Searching.{uses_with}
-use borrow.Author.Rules.{rules}
 use Rattle.classes.proofs.search.uses_with.Goals as goal
 
 pub overflow_add-result : goal.overflow_add-result

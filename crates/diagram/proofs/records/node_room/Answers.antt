@@ -3,7 +3,6 @@ use Prim.Native.Nat.{◌-◌, ◌*◌}
 use mathlib.Core.Path.{ap}
 use native.Mathlib.Omega.{arith}
 use lib.Pow.{pow_pos, pow_mono}
-use borrow.Author.Rules.{rules}
 use Rattle.diagram.specs.Build.{node_room}
 use Rattle.diagram.specs.Records.{record_size}
 use Rattle.diagram.proofs.records.node_room.Goals as goal

@@ -5,7 +5,6 @@ use lib.ListN.{length, length-set}
 use lib.IntN.{pos}
 use mir.Syntax.{w32}
 use mir.Facts.{to_z_pos, to_z-of_z}
-use borrow.Author.Rules.{rules}
 use Rattle.numbers.specs.Laws.Rows.{six_stored}
 use Rattle.diagram.specs.Records.{record_size, record_numbers}
 use Rattle.diagram.proofs.records.write_record.Goals as goal

@@ -2,7 +2,6 @@
 use mir.Syntax.{w32}
 use mathlib.Core.Path.{◌∙◌, ap}
 use mir.Facts.{to_z-of_z}
-use borrow.Author.Rules.{rules}
 use Rattle.numbers.specs.Ranges.{is_value}
 use Rattle.diagram.proofs.tables.value_fits.Goals as goal
 

@@ -1,9 +1,6 @@
 -- `tables::values_fit` meets its contract. The loop's invariant: the values from x on decide.
-use Prim.Native.Nat.{◌-◌}
-use mathlib.Core.Path.{◌≡◌, refl, sym, ◌∙◌}
+use mathlib.Core.Path.{refl, sym, ◌∙◌}
 use native.Mathlib.Omega.{arith}
-use lib.ListN.{length, drop}
-use Rattle.numbers.specs.Lists.{every}
 use Rattle.numbers.specs.Ranges.{is_value}
 use Rattle.diagram.specs.Laws.Checks.{passes_at, fails_at, nothing_left}
 use Rattle.diagram.proofs.tables.values_fit.Goals as goal

@@ -9,7 +9,6 @@ use lib.Signed.{mag}
 use mir.Facts.{to_z-of_z}
 use Rattle.lines.specs.Text.{decimal}
 use Rattle.lines.specs.Laws.Writing.{byte_stored, writes_behind, negative_decimal, other_decimal}
-use borrow.Author.Rules.{rules}
 use Rattle.lines.proofs.decimals.write_signed.Goals as goal
 use Rattle.lines.proofs.decimals.write_signed.Goals.{Else-number-lt0, Then-number-lt0}
 

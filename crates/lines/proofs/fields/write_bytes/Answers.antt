@@ -1,12 +1,11 @@
 -- `fields::write_bytes` meets its contract. The loop's invariant: the bytes so far are written.
-use Prim.Native.Nat.{◌+◌, ◌-◌, ◌≤◌}
+use Prim.Native.Nat.{◌+◌, ◌≤◌}
 use mathlib.Core.List.{[], ◌∷◌, flat_map}
 use native.Mathlib.Omega.{arith}
 use native.Mathlib.Nat.{add-zero}
 use lib.ListN.{length}
-use borrow.Author.Rules.{rules}
 use Rattle.lines.specs.Laws.Writing.{byte_stored}
-use Rattle.lines.specs.Laws.Pieces.{PiecesWritten, no_pieces, pieces_kept, piece_written, all_pieces, byte_pieces}
+use Rattle.lines.specs.Laws.Pieces.{no_pieces, pieces_kept, piece_written, all_pieces, byte_pieces}
 use Rattle.lines.proofs.fields.write_bytes.Goals as goal
 use Rattle.lines.proofs.fields.write_bytes.Goals.{At-loop-i}
 

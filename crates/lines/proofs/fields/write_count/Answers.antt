@@ -1,7 +1,6 @@
 -- `fields::write_count` meets its contract: the count is written as it is.
 use mir.Syntax.{w32}
 use mir.Facts.{to_z_pos}
-use borrow.Author.Rules.{rules}
 use Rattle.lines.proofs.fields.write_count.Goals as goal
 
 pub write_line-requires : goal.write_line-requires

@@ -1,17 +1,16 @@
 -- `fields::write_fields` meets its contract. The loop's invariant: the fields so far are written.
 use mir.Syntax.{w32}
-use Prim.Native.Nat.{◌+◌, ◌-◌, ◌≤◌}
+use Prim.Native.Nat.{◌+◌, ◌≤◌}
 use mathlib.Core.Path.{◌≡◌, refl, ◌∙◌, ap}
 use native.Mathlib.Omega.{arith}
 use mathlib.Core.List.{[], ◌∷◌, flat_map}
 use lib.ListN.{length, length-append, length-set}
 use lib.IntN.{pos}
 use mir.Facts.{to_z-of_z}
-use borrow.Author.Rules.{rules}
 use Rattle.lines.specs.Text.{fields}
 use Rattle.lines.specs.Inner.Writing.{Writes, field}
 use Rattle.lines.specs.Laws.Writing.{byte_stored, writes_behind}
-use Rattle.lines.specs.Laws.Pieces.{PiecesWritten, no_pieces, pieces_kept, piece_room, piece_written, all_pieces, field_pieces}
+use Rattle.lines.specs.Laws.Pieces.{no_pieces, pieces_kept, piece_room, piece_written, all_pieces, field_pieces}
 use Rattle.lines.proofs.fields.write_fields.Goals as goal
 use Rattle.lines.proofs.fields.write_fields.Goals.{After-loop-i, At-loop-i}
 

@@ -6,7 +6,6 @@ use native.Mathlib.Omega.{arith}
 use lib.ListN.{length, length-append}
 use Rattle.lines.specs.Text.{fields}
 use Rattle.lines.specs.Laws.Writing.{writes_behind, same_room}
-use borrow.Author.Rules.{rules}
 use Rattle.lines.proofs.fields.write_line.Goals as goal
 use Rattle.lines.proofs.fields.write_line.Goals.{Start}
 

@@ -1,7 +1,6 @@
 -- `fields::write_refusal` meets its contract.
 use native.Mathlib.Omega.{arith}
 use Rattle.lines.specs.Text.{ascii, line}
-use borrow.Author.Rules.{rules}
 use Rattle.lines.proofs.fields.write_refusal.Goals as goal
 
 pub write_count-requires : goal.write_count-requires

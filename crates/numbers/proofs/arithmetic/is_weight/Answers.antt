@@ -2,7 +2,6 @@
 use mathlib.Core.Path.{◌∙◌, ap}
 use lib.IntN.{pos, neg_ℤ}
 use mir.Facts.{to_z-of_z}
-use borrow.Author.Rules.{rules}
 use Rattle.numbers.specs.Ranges.{is_weight, within}
 use Rattle.numbers.proofs.arithmetic.is_weight.Goals as goal
 

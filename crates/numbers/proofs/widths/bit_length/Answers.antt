@@ -1,6 +1,5 @@
 -- `widths::bit_length` meets its contract: what the leading zeros leave of 32 digits.
 use lib.Count.{leading_le}
-use borrow.Author.Rules.{rules}
 use Rattle.numbers.specs.Laws.BitLength.{bit_length_zeros}
 use Rattle.numbers.proofs.widths.bit_length.Goals as goal
 

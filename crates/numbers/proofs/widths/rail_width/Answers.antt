@@ -2,7 +2,6 @@
 use Prim.Native.Nat.{suc, ◌-◌}
 use mathlib.Core.Path.{◌≡◌, refl, sym, ◌∙◌, ap}
 use native.Mathlib.Omega.{arith}
-use borrow.Author.Rules.{rules}
 use Rattle.numbers.specs.Lists.{least_from, least}
 use Rattle.numbers.specs.Widths.{rail_width}
 use Rattle.numbers.specs.Laws.BitLength.{rail_width_bits}

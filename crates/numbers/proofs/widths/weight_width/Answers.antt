@@ -1,7 +1,6 @@
 -- `widths::weight_width` meets its contract: the bits of the greater unsigned part, and one more where a weight is negative.
 use Prim.Native.Nat.{◌+◌, ◌^◌, ◌<◌}
 use mathlib.Core.Path.{◌≡◌, sym, ◌∙◌, ap}
-use mathlib.Core.Logic.{⊎_elim}
 use mathlib.Core.Bool.{true, false, not, ◌||◌}
 use mathlib.Core.List.{[], ◌∷◌}
 use native.Mathlib.Numerals.{one-add}
@@ -9,7 +8,6 @@ use native.Mathlib.Omega.{arith}
 use lib.IntN.{pos}
 use lib.Signed.{mag, lt_z}
 use mir.Facts.{Fits-of_lt, to_z-of_z}
-use borrow.Author.Rules.{rules}
 use Rattle.numbers.specs.Inner.Bits.{bit_length, greatest_part}
 use Rattle.numbers.specs.Laws.BitLength.{bit_length_least, unsigned_length, signed_length, pair_sign, pair_part}
 use Rattle.numbers.proofs.widths.weight_width.Goals as goal
@@ -26,7 +24,7 @@ is_length c =
     c.bit_length-bits.ensures
     ∙ ap bit_length
     (elim c.if-low-high.branch [
-      then-low-high w ↦ w.bit_length-is ∙ (let l = w.if-low-high.true in omega arith)
+      | then-low-high w ↦ w.bit_length-is ∙ (let l = w.if-low-high.true in omega arith)
       | else-low-high w ↦ w.bit_length-is ∙ (let l = w.if-low-high.false in omega arith)
     ]
     ∙ pair_part low high)
@@ -40,12 +38,12 @@ is_signed c =
     let test_low = ap (λ z. lt_z z (pos 0)) (to_z-of_z at.ranges.least) in
     let test-high = ap (λ z. lt_z z (pos 0)) (to_z-of_z at.ranges.greatest) in
     elim c.if-least-lt0.branch [
-      then-least-lt0 w ↦
-        let negative : lt_z low (pos 0) ≡ true = sym test_low ∙ w.if-least-lt0.true in
-        w.value-is ∙ w.if-least-lt0.true ∙ sym (ap (λ t. t || lt_z high (pos 0)) negative)
+      | then-least-lt0 w ↦
+          let negative : lt_z low (pos 0) ≡ true = sym test_low ∙ w.if-least-lt0.true in
+          w.value-is ∙ w.if-least-lt0.true ∙ sym (ap (λ t. t || lt_z high (pos 0)) negative)
       | else-least-lt0 w ↦
-        let plain : lt_z low (pos 0) ≡ false = sym test_low ∙ w.if-least-lt0.false in
-        w.value-is ∙ test-high ∙ sym (ap (λ t. t || lt_z high (pos 0)) plain)
+          let plain : lt_z low (pos 0) ≡ false = sym test_low ∙ w.if-least-lt0.false in
+          w.value-is ∙ test-high ∙ sym (ap (λ t. t || lt_z high (pos 0)) plain)
     ]
 
 pub overflow_add-result : goal.overflow_add-result

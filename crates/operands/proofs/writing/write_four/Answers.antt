@@ -2,7 +2,6 @@
 use Prim.Native.Nat.{◌+◌, ◌/◌}
 use mathlib.Core.Path.{sym, ◌∙◌, ap}
 use native.Mathlib.Omega.{arith}
-use borrow.Author.Rules.{rules}
 use Rattle.numbers.specs.Lists.{overwritten}
 use Rattle.operands.specs.Bytes.{big_endian}
 use Rattle.operands.specs.Laws.Bytes.{length_big_endian}

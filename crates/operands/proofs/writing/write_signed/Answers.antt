@@ -3,7 +3,6 @@ use Prim.Native.Nat.{◌-◌}
 use mathlib.Core.Path.{◌≡◌, ◌∙◌, ap}
 use lib.Signed.{mag}
 use mir.Facts.{to_z-of_z}
-use borrow.Author.Rules.{rules}
 use Rattle.numbers.specs.Lists.{overwritten}
 use Rattle.operands.specs.Bytes.{big_endian, signed_bytes}
 use Rattle.operands.specs.Laws.Digits.{negative_bytes, other_bytes}

@@ -4,7 +4,6 @@ use mathlib.Core.List.{[], ◌∷◌}
 use mathlib.Core.Path.{sym, ◌∙◌, ap}
 use native.Mathlib.Omega.{arith}
 use lib.ListN.{length-set}
-use borrow.Author.Rules.{rules}
 use Rattle.numbers.specs.Lists.{overwritten}
 use Rattle.operands.specs.Laws.Digits.{two_bytes}
 use Rattle.numbers.specs.Laws.Written.{one_stored, stored_behind}

@@ -1,11 +1,10 @@
 -- `narrow_cells::furthest_cut` meets its contract. The loop's invariant: from each cut above h the cell of one variable fits.
 --
-use Prim.Native.Nat.{ℕ, ◌+◌, ◌-◌, ◌≤◌, ◌<◌}
+use Prim.Native.Nat.{ℕ, ◌+◌, ◌≤◌, ◌<◌}
 use mathlib.Core.Path.{◌≡◌}
 use native.Mathlib.Omega.{arith}
 use native.Mathlib.Decide.{dec_lt}
 use mir.Facts.{Fits-of_lt}
-use borrow.Author.Tests.{leb-true, leb-false}
 use Rattle.reach.specs.Laws.Narrowest.{furthest_is}
 use Rattle.reach.specs.Inner.NarrowCells.{narrowest_in}
 use Rattle.reach.specs.Laws.NarrowCells.{count_ready}

@@ -1,8 +1,6 @@
 -- `narrow_cells::least_limit` meets its contract. The loop's invariant: the widest so far is that of the cells from the cuts
 -- above h.
-use Prim.Native.Nat.{◌-◌, ◌≤◌}
 use mathlib.Core.Path.{◌≡◌, refl, sym, ◌∙◌, ap}
-use mathlib.Core.Logic.{⊎_elim}
 use native.Mathlib.Numerals.{add-one}
 use native.Mathlib.Omega.{arith}
 use mir.Facts.{Fits-of_lt}
@@ -33,10 +31,10 @@ loop-h-preserved c =
     let here = c.narrowest-address.ensures in (
       (let l = c.loop-h-test.true in omega arith),
       elim c.if-least-address.branch [
-        then-least-address w ↦
-          w.least-is ∙ here ∙ sym (widest_next (narrowest_in c.args.counts.now) h (let t = w.if-least-address.true in omega arith))
+        | then-least-address w ↦
+            w.least-is ∙ here ∙ sym (widest_next (narrowest_in c.args.counts.now) h (let t = w.if-least-address.true in omega arith))
         | else-least-address w ↦
-          w.least-is ∙ so_far ∙ sym (widest_stays (narrowest_in c.args.counts.now) h (let t = w.if-least-address.false in omega arith))
+            w.least-is ∙ so_far ∙ sym (widest_stays (narrowest_in c.args.counts.now) h (let t = w.if-least-address.false in omega arith))
       ]
           ∙ ap (widest_above (narrowest_in c.args.counts.now)) (sym (add-one h)),
     )

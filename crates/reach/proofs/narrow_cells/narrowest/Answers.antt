@@ -3,7 +3,6 @@ use Prim.Native.Nat.{◌+◌}
 use mathlib.Core.Path.{ap}
 use native.Mathlib.Omega.{arith}
 use mir.Facts.{Fits-of_lt}
-use borrow.Author.Rules.{rules}
 use Rattle.numbers.specs.Laws.Widths.{rail_width_least}
 use Rattle.reach.specs.Inner.NarrowCells.{narrowest_in}
 use Rattle.reach.proofs.narrow_cells.narrowest.Goals as goal

@@ -1,7 +1,6 @@
 -- `writer::put_cell` meets its contract: the tail is lent and comes back with the cell in front.
 use Prim.Native.Nat.{◌+◌}
 use mathlib.Core.Path.{ap}
-use borrow.Author.Rules.{rules}
 use Rattle.cascade.specs.Cascade.{cell_of}
 use Rattle.compiler.specs.Inner.Writing.{cell_bytes}
 use Rattle.numbers.specs.Laws.Written.{tail_back}

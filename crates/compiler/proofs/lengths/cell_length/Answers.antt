@@ -1,9 +1,7 @@
--- `measures::lengths::cell_length` meets its contract.
+-- `lengths::cell_length` meets its contract.
 use Prim.Native.Nat.{◌+◌, ◌*◌, ◌%◌, ◌^◌}
 use mathlib.Core.Path.{◌≡◌, ap}
 use native.Mathlib.Omega.{arith}
-use mir.Facts.{Fits-of_lt}
-use borrow.Author.Rules.{rules}
 use Rattle.numbers.specs.Laws.Pieces.{shifted_one}
 use Rattle.compiler.specs.Inner.Lengths.{planned_bytes}
 use Rattle.compiler.proofs.lengths.cell_length.Goals as goal
@@ -12,15 +10,6 @@ use Rattle.compiler.proofs.lengths.cell_length.Goals.{Start}
 -- The cell's words.
 words : (c : Start) → c.args.cell.incoming * (1 * 2 ^ c.args.cell.group % 18446744073709551616) ≡ c.args.cell.incoming * 2 ^ c.args.cell.group
 words c = ap (λ k. c.args.cell.incoming * k) (shifted_one c.args.cell.group (let g = c.requires.group in omega arith))
-
-pub overflow_mul-result : goal.overflow_mul-result
-overflow_mul-result c = rw (words (goal.at.overflow_mul-result c).Start) (Fits-of_lt (let w = c.requires.words in omega arith))
-
-pub overflow_mul-result-2 : goal.overflow_mul-result-2
-overflow_mul-result-2 c = rw (words (goal.at.overflow_mul-result-2 c).Start) (Fits-of_lt (let w = c.requires.words in omega arith))
-
-pub overflow_add-result : goal.overflow_add-result
-overflow_add-result c = rw (words (goal.at.overflow_add-result c).Start) (Fits-of_lt (let w = c.requires.words in omega arith))
 
 pub returns : goal.returns
 unfolding planned_bytes

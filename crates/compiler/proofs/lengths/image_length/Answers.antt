@@ -1,5 +1,5 @@
--- `measures::lengths::image_length` meets its contract. The loop's invariant: the bytes of the cells so far.
-use Prim.Native.Nat.{◌+◌, ◌-◌, ◌<◌}
+-- `lengths::image_length` meets its contract. The loop's invariant: the bytes of the cells so far.
+use Prim.Native.Nat.{◌+◌}
 use mathlib.Core.Path.{◌≡◌, ◌∙◌, ap}
 use native.Mathlib.Omega.{arith}
 use lib.ListN.{take}
@@ -8,39 +8,23 @@ use Rattle.cascade.specs.Plan.{no_cell}
 use Rattle.compiler.specs.Inner.Lengths.{planned_length}
 use Rattle.compiler.specs.Laws.Measuring.{MeasuredTo, none_measured, one_measured}
 use Rattle.compiler.proofs.lengths.image_length.Goals as goal
-use Rattle.compiler.proofs.lengths.image_length.Goals.{After-cell_length-length, In-loop-k}
+use Rattle.compiler.proofs.lengths.image_length.Goals.{After-cell_length-length}
 
 pub loop-k-init : goal.loop-k-init
 loop-k-init c = none_measured c.requires
 
--- In a turn the cell has a place.
-inside : (c : In-loop-k) → c.loop-k.k < 12
-inside c = let l = c.loop-k-test.true in let f = c.requires.few in omega arith
-
-pub offset_bounds-cells-k : goal.offset_bounds-cells-k
-offset_bounds-cells-k c = Fits-of_lt (let i = inside c in omega arith)
-
-pub bounds-cells-k : goal.bounds-cells-k
-bounds-cells-k c = inside c
-
-pub cell_length-length-requires : goal.cell_length-length-requires
-unfolding no_cell
-cell_length-length-requires c = c.requires.each c.loop-k.k c.loop-k-test.true
-
 -- The invariant with the cell that was measured.
-next : (c : After-cell_length-length) → MeasuredTo c.args.t1 c.args.count (c.loop-k.k + 1) (c.loop-k.length + c.cell_length-length.result)
+next : (c : After-cell_length-length) → MeasuredTo c.args.cells c.args.count (c.loop-k.k + 1) (c.loop-k.length + c.cell_length-length.result)
 unfolding no_cell
 next c =
     rw c.cell_length-length.ensures (one_measured c.requires c.loop-k.k c.loop-k.length c.loop-k.invariant c.loop-k-test.true)
 
 pub overflow_add-length : goal.overflow_add-length
-overflow_add-length c = Fits-of_lt (let s = (next c).small in let i = inside (goal.at.overflow_add-length c).In-loop-k in omega arith)
-
-pub overflow_add-k : goal.overflow_add-k
-overflow_add-k c = Fits-of_lt (let i = inside (goal.at.overflow_add-k c).In-loop-k in omega arith)
-
-pub loop-k-smaller : goal.loop-k-smaller
-loop-k-smaller c = let l = c.loop-k-test.true in omega arith
+overflow_add-length c =
+    let s = (next c).small in
+    let l = c.loop-k-test.true in
+    let f = c.requires.few in
+    Fits-of_lt (omega arith)
 
 pub loop-k-preserved : goal.loop-k-preserved
 loop-k-preserved c = next c
@@ -48,4 +32,4 @@ loop-k-preserved c = next c
 pub returns : goal.returns
 returns c =
     let s = c.loop-k.invariant in
-    s.decreases ∙ ap (λ k. planned_length (take k c.args.t1)) (let l = c.loop-k-test.false in let i = s.inside in let e : c.loop-k.k ≡ c.args.count = omega arith in e)
+    s.measured ∙ ap (λ k. planned_length (take k c.args.cells)) (let l = c.loop-k-test.false in let i = s.inside in let e : c.loop-k.k ≡ c.args.count = omega arith in e)

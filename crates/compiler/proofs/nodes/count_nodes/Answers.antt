@@ -1,5 +1,5 @@
 -- `measures::nodes::count_nodes` meets its contract. The loop's invariant: the terminal and the branching classes of the cuts so far.
-use Prim.Native.Nat.{◌+◌, ◌-◌, ◌<◌}
+use Prim.Native.Nat.{◌+◌, ◌<◌}
 use native.Mathlib.Omega.{arith}
 use mir.Facts.{Fits-of_lt}
 use Rattle.compiler.specs.Laws.Counting.{NodesTo, terminal_alone, cut_place_lem, cut_counted, cuts_small, one_cut, all_cuts}

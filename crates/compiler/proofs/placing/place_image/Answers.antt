@@ -1,7 +1,6 @@
 -- `placing::place_image` meets its contract: the room is tested before any byte is written.
 use mathlib.Core.Path.{◌≡◌, ◌∙◌, subst⁻¹}
 use lib.ListN.{length}
-use borrow.Author.Rules.{rules}
 use Rattle.cascade.specs.Compile.{image_for}
 use Rattle.cascade.specs.declared.Compiled.{Compiled}
 use Rattle.cascade.specs.Inner.Planned.{groups}
@@ -21,17 +20,17 @@ is_length c = let r = c.requires in c.image_length-length.ensures ∙ length_is 
 pub returns-then-image-length : goal.returns-then-image-length
 returns-then-image-length c =
     let l = (goal.at.returns-then-image-length c).After-image_length-length in
-    let a = l.args in
+    let a = c.args in
     subst⁻¹ (λ (r : Compiled). Places a.n a.table.now (groups a.cells a.count) a.image.now r a.image.now) c.not_compiled.ensures
     (places_short a.n a.table.now (groups a.cells a.count) a.image.now (rw (is_length l) at c.if-image-length.true))
 
 pub write_image-requires : goal.write_image-requires
 write_image-requires c =
     let l = (goal.at.write_image-requires c).After-image_length-length in
-    (
-      (record { admitted = c.requires.rows.admitted; numbered = c.requires.numbered; placed = c.requires.rows.placed }, cells_planned c.requires.rows.admitted c.requires.planned),
-      rw (is_length l) at c.if-image-length.false,
-    )
+    record {
+      rows_known = (record { admitted = c.requires.rows.admitted; numbered = c.requires.numbered; placed = c.requires.rows.placed }, cells_planned c.requires.rows.admitted c.requires.planned);
+      count_in_bounds = rw (is_length l) at c.if-image-length.false;
+    }
 
 pub returns : goal.returns
 returns c =

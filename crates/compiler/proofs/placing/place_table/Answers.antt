@@ -1,12 +1,10 @@
 -- `placing::place_table` meets its contract.
-use Prim.Native.Nat.{suc, ◌+◌, ◌-◌, ◌^◌, ◌≤◌}
+use Prim.Native.Nat.{suc, ◌-◌, ◌^◌, ◌≤◌}
 use mathlib.Core.Path.{◌≡◌, sym, ◌∙◌, ap}
 use native.Mathlib.Numerals.{add-one}
 use native.Mathlib.Omega.{arith}
 use lib.ListN.{length, take}
 use lib.Seq.{length-take-le}
-use lib.Pow.{pow_pos}
-use borrow.Author.Rules.{rules}
 use Rattle.blocks.specs.Rows.{cut_place}
 use Rattle.cascade.specs.Laws.Cells.{variables_most}
 use Rattle.compiler.proofs.placing.place_table.Goals as goal
@@ -30,31 +28,23 @@ module _ (c : After-power-places) where
   in_firsts : c.power-places.result - 1 ≤ length c.args.firsts.now
   in_firsts = rw places c.requires.first_places
 
-  in_counts : c.args.n + 1 ≤ length c.args.counts.now
-  in_counts = let p = c.requires.count_places in omega arith
-
-pub overflow_sub-places : goal.overflow_sub-places
-overflow_sub-places c = rw c.power-places.ensures (pow_pos (c.args.n + 1))
-
 pub slice_bounds-place_image-end : goal.slice_bounds-place_image-end
 slice_bounds-place_image-end c = sym (length-take-le _ _ (in_classes c))
 
 pub slice_bounds-place_image-end-2 : goal.slice_bounds-place_image-end-2
 slice_bounds-place_image-end-2 c = sym (length-take-le _ _ (in_firsts c))
 
-pub slice_bounds-place_image-end-3 : goal.slice_bounds-place_image-end-3
-slice_bounds-place_image-end-3 c = sym (length-take-le _ _ (in_counts c))
-
 pub place_image-requires : goal.place_image-requires
 place_image-requires c =
     let p = (goal.at.place_image-requires c).After-power-places in
-    let s = start p in
+    let a = c.args in
+    let r = c.requires in
     record {
       rows = record {
-        admitted = s.pre.admitted;
-        placed = ap (λ k. take k s.args.firsts.now) (places p) ∙ s.pre.placed;
-        counted = ap (λ k. take k s.args.counts.now) (add-one s.args.n) ∙ s.pre.counted;
+        admitted = r.admitted;
+        placed = ap (λ k. take k a.firsts.now) (places p) ∙ r.placed;
+        counted = ap (λ k. take k a.counts.now) (add-one a.n) ∙ r.counted;
       };
-      numbered = ap (λ k. take k s.args.classes.now) (places p) ∙ s.pre.numbered;
-      planned = s.pre.planned;
+      numbered = ap (λ k. take k a.classes.now) (places p) ∙ r.numbered;
+      planned = r.planned;
     }

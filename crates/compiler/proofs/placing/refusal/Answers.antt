@@ -1,6 +1,5 @@
 -- `placing::refusal` meets its contract.
 use mathlib.Core.Path.{sym, ap}
-use borrow.Author.Rules.{rules}
 use Rattle.compiler.specs.Inner.Placing.{refusal_of}
 use Rattle.compiler.proofs.placing.refusal.Goals as goal
 

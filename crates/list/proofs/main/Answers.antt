@@ -1,23 +1,19 @@
 -- `list::main` is safe: the kept bytes are within the buffer.
-use Prim.Native.Nat.{◌≤◌}
-use mathlib.Core.Path.{sym}
-use native.Mathlib.Omega.{arith}
-use lib.ListN.{length}
+use Rattle.std.proofs.Common.{◌≤◌, arith, length, sym}
 use lib.Seq.{length-take-le}
 use Rattle.stdin.specs.Laws.{kept_count}
-use borrow.Author.Rules.{rules}
 use Rattle.list.proofs.main.Goals as goal
 use Rattle.list.proofs.main.Goals.{In-Kept}
 
 -- The kept bytes are within the buffer.
-inside : (c : In-Kept) → c.in-Kept.FIELDS.0 ≤ length c.read_input.new.0
+inside : (c : In-Kept) → c.in-Kept.count ≤ length c.read_input.new.buffer
 inside c =
     let l = c.read_input.ensures.room in
     let w = kept_count _ c.read_input.result _ c.read_input.ensures.within c.in-Kept.is in
     omega arith
 
 pub slice_bounds-buffer-end : goal.slice_bounds-buffer-end
-slice_bounds-buffer-end c = inside c
+slice_bounds-buffer-end c = inside (goal.at.slice_bounds-buffer-end c).In-Kept
 
 pub slice_bounds-print_listing-end : goal.slice_bounds-print_listing-end
 slice_bounds-print_listing-end c = sym (length-take-le _ _ (inside (goal.at.slice_bounds-print_listing-end c).In-Kept))

@@ -7,7 +7,6 @@ use Rattle.numbers.specs.Laws.Rows.{overwritten_front}
 use Rattle.listing.specs.Listing.{listing}
 use Rattle.listing.specs.Program.{text_room, list_answer, list_buffer}
 use Rattle.listing.specs.declared.Listed.TheVariants.{Text}
-use borrow.Author.Rules.{rules}
 use Rattle.listing.proofs.list.Goals as goal
 
 pub returns-then-text-lt-TEXT_ROOM : goal.returns-then-text-lt-TEXT_ROOM

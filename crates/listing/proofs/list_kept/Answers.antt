@@ -2,7 +2,6 @@
 use Prim.Native.Nat.{◌≤◌}
 use native.Mathlib.Omega.{arith}
 use lib.ListN.{length}
-use borrow.Author.Rules.{rules}
 use Rattle.listing.specs.Program.{text_room}
 use Rattle.listing.specs.Laws.Kept.{text_answered, text_listed}
 use Rattle.listing.proofs.list_kept.Goals as goal
@@ -11,7 +10,7 @@ use Rattle.listing.proofs.list_kept.Goals.{After-list}
 module _ (c : After-list) where
   room : text_room ≤ length c.args.text.now
   unfolding text_room
-  room = let l = c.list-arg-1.given.0.1 in omega arith
+  room = omega arith
 
 pub returns-in-Text : goal.returns-in-Text
 returns-in-Text c = let l = (goal.at.returns-in-Text c).After-list in text_listed c.args.kept.now c.args.text.now l.list.result _ l.list.ensures (room l) _ c.in-Text.is

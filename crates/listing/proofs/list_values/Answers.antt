@@ -9,83 +9,66 @@ use lib.Pow.{pow_mono}
 use lib.IntN.{ℤ, pos}
 use Rattle.listing.specs.Listing.{most_listed, table_of}
 use Rattle.listing.specs.Inner.Values.{values_of}
+use Rattle.listing.specs.Inner.Listed.{InputCounted}
 use Rattle.listing.specs.Laws.Listed.{listed_range, table_length, plan_listed}
 use Rattle.listing.specs.Laws.Values.{values_table}
-use borrow.Author.Rules.{rules}
 use Rattle.listing.proofs.list_values.Goals as goal
-use Rattle.listing.proofs.list_values.Goals.{After-power-count, After-read_values, Start}
 
 abbrev zeros : List ℤ
 zeros = replicate 2048 (pos 0)
 
-module _ (c : Start) where
-  abbrev input : List ℕ
-  input = c.args.input.now
+module _ (input text : List ℕ) (r : InputCounted input text) where
+  few : get_or input 0 0 ≤ 11
+  few = (listed_range (get_or input 0 0) r.inside).1
 
-  abbrev n : ℕ
-  n = get_or input 0 0
+  -- The lent front has a place for each value.
+  module _ (count : ℕ) (made : count ≡ 2 ^ get_or input 0 0) where
+    most : count ≤ length zeros
+    most = let m = pow_mono {i = get_or input 0 0} {j = 11} few in rw (length-replicate 2048 (pos 0)) (omega arith)
 
-  few : n ≤ 11
-  few = (listed_range n c.requires.inside).1
+    places : length (take count zeros) ≡ 2 ^ get_or input 0 0
+    places = length-take-le count zeros most ∙ made
+
+    many : length (table_of input) ≡ count
+    many = table_length input (2 ^ get_or input 0 0) r.counted ∙ sym made
+
+    -- The values that were read are the table.
+    module _ (row : List ℤ) (read : row ≡ values_of input (length (take count zeros))) where
+      is_table : row ≡ table_of input
+      is_table = read ∙ ap (values_of input) places ∙ values_table input (2 ^ get_or input 0 0) r.counted
+
+      front : take count (row ++ drop count zeros) ≡ table_of input
+      front = take_at row (drop count zeros) count (ap length is_table ∙ many) ∙ is_table
 
 pub bounds-input-0 : goal.bounds-input-0
 bounds-input-0 c = let l = c.requires.counted in omega arith
 
-pub overflow_cast-n : goal.overflow_cast-n
-overflow_cast-n c = omega (arith, c.shared_slice_known-2-1.given 0)
-
 pub bounds-input-1 : goal.bounds-input-1
 bounds-input-1 c = let l = c.requires.counted in omega arith
 
-pub overflow_cast-limit : goal.overflow_cast-limit
-overflow_cast-limit c = omega (arith, c.shared_slice_known-3-1.given 1)
-
 pub power-count-requires : goal.power-count-requires
-power-count-requires c = let f = few (goal.at.power-count-requires c).Start in omega arith
-
--- The lent front has a place for each value.
-module _ (c : After-power-count) where
-  made : c.power-count.result ≡ 2 ^ n (goal.at.slice_bounds-values-end c).Start
-  made = c.power-count.ensures
-
-  most : c.power-count.result ≤ length zeros
-  most = let e = made in let m = pow_mono {i = n (goal.at.slice_bounds-values-end c).Start} {j = 11} (few (goal.at.slice_bounds-values-end c).Start) in rw (length-replicate 2048 (pos 0)) (omega arith)
-
-  places : length (take c.power-count.result zeros) ≡ 2 ^ n (goal.at.slice_bounds-values-end c).Start
-  places = length-take-le c.power-count.result zeros most ∙ made
+power-count-requires c = let f = few c.args.input.now c.args.text.now c.requires in omega arith
 
 pub slice_bounds-values-end : goal.slice_bounds-values-end
-slice_bounds-values-end c = most c
+slice_bounds-values-end c = most c.args.input.now c.args.text.now c.requires c.power-count.result c.power-count.ensures
 
 pub slice_bounds-read_values-end : goal.slice_bounds-read_values-end
-slice_bounds-read_values-end c = made (goal.at.slice_bounds-read_values-end c).After-power-count ∙ sym (places (goal.at.slice_bounds-read_values-end c).After-power-count)
+slice_bounds-read_values-end c = c.power-count.ensures ∙ sym (places c.args.input.now c.args.text.now c.requires c.power-count.result c.power-count.ensures)
 
 pub read_values-requires : goal.read_values-requires
-read_values-requires c = let l = places (goal.at.read_values-requires c).After-power-count in let e = c.requires.counted in omega arith
-
--- The values that were read are the table.
-module _ (c : After-read_values) where
-  is_table : c.read_values.new.1.0 ≡ table_of (input UNMAPPED.Start)
-  is_table = c.read_values.ensures ∙ ap (values_of (input UNMAPPED.Start)) (places UNMAPPED.After-power-count) ∙ values_table (input UNMAPPED.Start) (2 ^ n UNMAPPED.Start) c.requires.counted
-
-  many : length (table_of (input UNMAPPED.Start)) ≡ c.power-count.result
-  many = table_length (input UNMAPPED.Start) (2 ^ n UNMAPPED.Start) c.requires.counted ∙ sym (made UNMAPPED.After-power-count)
-
-  front : take c.power-count.result (c.read_values.new.1.0 ++ drop c.power-count.result zeros) ≡ table_of (input UNMAPPED.Start)
-  front = take_at c.read_values.new.1.0 (drop c.power-count.result zeros) c.power-count.result (ap length is_table ∙ many) ∙ is_table
+read_values-requires c = let l = places c.args.input.now c.args.text.now c.requires c.power-count.result c.power-count.ensures in let e = c.requires.counted in omega arith
 
 pub slice_bounds-values-end-2 : goal.slice_bounds-values-end-2
-slice_bounds-values-end-2 c = let l = ap length (is_table (goal.at.slice_bounds-values-end-2 c).After-read_values) ∙ many (goal.at.slice_bounds-values-end-2 c).After-read_values in rw length-append (omega arith)
+slice_bounds-values-end-2 c = let l = ap length (is_table c.args.input.now c.args.text.now c.requires c.power-count.result c.power-count.ensures c.read_values.new.values c.read_values.ensures) ∙ many c.args.input.now c.args.text.now c.requires c.power-count.result c.power-count.ensures in rw length-append (omega arith)
 
 pub slice_bounds-list_table-end : goal.slice_bounds-list_table-end
-slice_bounds-list_table-end c = let r = (goal.at.slice_bounds-list_table-end c).After-read_values in sym (ap length (front r) ∙ many r)
+slice_bounds-list_table-end c = sym (ap length (front c.args.input.now c.args.text.now c.requires c.power-count.result c.power-count.ensures c.read_values.new.values c.read_values.ensures) ∙ many c.args.input.now c.args.text.now c.requires c.power-count.result c.power-count.ensures)
 
 pub list_table-requires : goal.list_table-requires
 unfolding most_listed
-list_table-requires c = let s = begun (goal.at.list_table-requires c).After-read_values in (few s, s.pre.room)
+list_table-requires c = (few c.args.input.now c.args.text.now c.requires, c.requires.room)
 
 pub returns : goal.returns
 returns c =
-    let r = (goal.at.returns c).After-read_values in
-    let s = begun r in
-    rw (plan_listed (input s) s.pre.inside s.pre.counted) (rw (front r) at c.list_table.ensures)
+    rw (plan_listed c.args.input.now c.requires.inside c.requires.counted)
+    (rw (front c.args.input.now c.args.text.now c.requires c.power-count.result c.power-count.ensures c.read_values.new.values c.read_values.ensures) at c.list_table.ensures)

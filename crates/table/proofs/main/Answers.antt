@@ -1,16 +1,12 @@
 -- `table::main` is safe: the kept bytes are within the buffer.
-use Prim.Native.Nat.{◌≤◌}
-use mathlib.Core.Path.{sym}
-use native.Mathlib.Omega.{arith}
-use lib.ListN.{length}
+use Rattle.std.proofs.Common.{◌≤◌, arith, length, sym}
 use lib.Seq.{length-take-le}
-use borrow.Author.Rules.{rules}
 use Rattle.stdin.specs.Laws.{kept_count}
 use Rattle.table.proofs.main.Goals as goal
 use Rattle.table.proofs.main.Goals.{In-Kept}
 
 -- The kept bytes are within the buffer.
-inside : (c : In-Kept) → c.in-Kept.FIELDS.0 ≤ length c.read_text.new.0
+inside : (c : In-Kept) → c.in-Kept.count ≤ length c.read_text.new.buffer
 inside c =
     let l = c.read_text.ensures.room in
     let w = kept_count _ c.read_text.result _ c.read_text.ensures.within c.in-Kept.is in

@@ -3,20 +3,19 @@ use mir.Syntax.{w32}
 use mir.Facts.{to_z_pos}
 use Rattle.lines.specs.Text.{ascii, line}
 use Rattle.listing.specs.Inner.CellLines.{plan_line}
-use borrow.Author.Rules.{rules}
 use Rattle.listing.proofs.cell_lines.write_cell.Goals as goal
 
 pub write_line-requires : goal.write_line-requires
 unfolding plan_line line ascii
 write_line-requires c =
     let cell = c.args.cell in
-    let small = c.requires.0 in
-    let p = c.requires.1 in
+    let small = c.requires.cell_small in
+    let p = c.requires.cell_in_bounds in
     rw (to_z_pos w32 {n = cell.group} small.group, to_z_pos w32 {n = cell.incoming} small.incoming, to_z_pos w32 {n = cell.outgoing} small.outgoing, to_z_pos w32 {n = cell.width} small.width, to_z_pos w32 {n = cell.bits} small.bits) p
 
 pub returns : goal.returns
 unfolding plan_line line ascii
 returns c =
     let cell = c.args.cell in
-    let small = c.requires.0 in
+    let small = c.requires.cell_small in
     rw (to_z_pos w32 {n = cell.group} small.group, to_z_pos w32 {n = cell.incoming} small.incoming, to_z_pos w32 {n = cell.outgoing} small.outgoing, to_z_pos w32 {n = cell.width} small.width, to_z_pos w32 {n = cell.bits} small.bits) at c.write_line.ensures

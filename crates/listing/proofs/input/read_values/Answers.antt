@@ -1,5 +1,5 @@
 -- `listing::input::read_values` meets its contract. The loop's invariant: the values so far are read.
-use Prim.Native.Nat.{◌+◌, ◌-◌, ◌*◌}
+use Prim.Native.Nat.{◌+◌, ◌*◌}
 use mathlib.Core.Path.{◌≡◌, ◌∙◌}
 use native.Mathlib.Omega.{arith}
 use lib.ListN.{length}
@@ -8,7 +8,7 @@ use mir.Val.{of_z, to_z}
 use mir.Facts.{to_z-of_z}
 use borrow.Author.Rules.{sfits_of}
 use Rattle.operands.specs.Bytes.{signed_at}
-use Rattle.listing.specs.Laws.Values.{ValuesRead, no_values, values_kept, next_value, all_values}
+use Rattle.listing.specs.Laws.Values.{no_values, values_kept, next_value, all_values}
 use Rattle.listing.proofs.input.read_values.Goals as goal
 use Rattle.listing.proofs.input.read_values.Goals.{At-loop-j}
 
@@ -46,7 +46,7 @@ loop-j-preserved c =
     let a = c.args in
     let t = c.loop-j-test.true in
     let k = kept l in
-    let value : to_z w32 (of_z w32 c.read_signed.result) ≡ signed_at a.input.now (2 + 4 * l.loop-j.j) = to_z-of_z (sfits_of c.read_signed.type_inv) ∙ c.read_signed.ensures in
+    let value : to_z w32 (of_z w32 c.read_signed.result) ≡ signed_at a.input.now (2 + 4 * l.loop-j.j) = to_z-of_z {w = w32} (sfits_of c.read_signed.type_inv) ∙ c.read_signed.ensures in
     rw value (next_value a.input.now a.values.now l.loop-j.invariant (omega arith))
 
 pub shape_of-values : goal.shape_of-values

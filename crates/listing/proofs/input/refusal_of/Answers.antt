@@ -6,20 +6,16 @@ use mathlib.Core.List.{List}
 use native.Mathlib.Omega.{arith}
 use lib.ListN.{length, get_or}
 use lib.Pow.{pow_mono}
-use borrow.Author.Tests.{lt-leb, le-leb, eq-eqb, ne_eqb, not-true, not-false}
+use borrow.Author.Tests.{lt-leb, le-leb, eq-eqb, ne_eqb}
 use Rattle.listing.specs.Listing.{is_listed}
 use Rattle.listing.specs.Inner.Listed.{input_refusal}
 use Rattle.listing.specs.Laws.Listed.{listed_range}
-use borrow.Author.Rules.{rules}
 use Rattle.listing.proofs.input.refusal_of.Goals as goal
 use Rattle.listing.proofs.input.refusal_of.Goals.{After-is_listed, After-power, Else-not-is_listed}
 
 pub returns-then-input-lt2 : goal.returns-then-input-lt2
 unfolding input_refusal
 returns-then-input-lt2 c = rw (lt-leb 2 (length c.args.input.now) c.if-input-lt2.true)
-
-pub overflow_cast-n : goal.overflow_cast-n
-overflow_cast-n c = omega (arith, c.shared_slice_known-2-1.given 0)
 
 module _ (c : After-is_listed) where
   abbrev input : List ℕ

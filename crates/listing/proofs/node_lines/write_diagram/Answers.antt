@@ -11,7 +11,6 @@ use Rattle.lines.specs.Text.{ascii, line}
 use Rattle.listing.specs.Inner.NodeLines.{record_lines, diagram_text}
 use Rattle.lines.specs.Inner.Writing.{Writes}
 use Rattle.lines.specs.Laws.Writing.{writes_behind, same_room}
-use borrow.Author.Rules.{rules}
 use Rattle.listing.proofs.node_lines.write_diagram.Goals as goal
 use Rattle.listing.proofs.node_lines.write_diagram.Goals.{After-write_line-first, After-write_nodes-next, Start}
 
@@ -35,19 +34,20 @@ module _ (c : Start) where
 
 -- The first line is written.
 module _ (c : After-write_line-first) where
-  first_line : Writes c.args.text.now 0 (head UNMAPPED.Start) c.write_line-first.result c.write_line-first.new.0
+  first_line : Writes c.args.text.now 0 (line "table" (pos c.args.n ∷ c.args.offset ∷ [])) c.write_line-first.result c.write_line-first.new.text
   unfolding line ascii
-  first_line = rw (to_z_pos w32 {n = c.args.n} c.requires.0.0, to_z-of_z c.ranges.offset) at c.write_line-first.ensures
+  first_line = rw (to_z_pos w32 {n = c.args.n} c.requires.n_bound.0, to_z-of_z c.ranges.offset) at c.write_line-first.ensures
 
 -- The node lines are written behind it.
 module _ (c : After-write_nodes-next) where
-  node_lines : Writes c.args.text.now 0 (head UNMAPPED.Start ++ lines UNMAPPED.Start) c.write_nodes-next.result c.write_nodes-next.new.0
-  node_lines =
-      let d = UNMAPPED.After-write_line-first in
-      let f = front UNMAPPED.Start in
-      let w = whole UNMAPPED.Start in
-      let p = c.requires.1 in
-      writes_behind (first_line d) (omega arith) c.write_nodes-next.ensures
+  abbrev Opened : Type 0
+  Opened = Writes c.args.text.now 0 (line "table" (pos c.args.n ∷ c.args.offset ∷ [])) c.write_line-first.result c.write_line-first.new.text
+
+  node_lines : Opened → length (diagram_text c.args.n c.args.offset c.args.nodes.now c.args.count) ≡ length (line "table" (pos c.args.n ∷ c.args.offset ∷ []) ++ record_lines c.args.nodes.now c.args.count) + length (line "nodes" (pos (c.args.count + 1) ∷ [])) → Writes c.args.text.now 0 (line "table" (pos c.args.n ∷ c.args.offset ∷ []) ++ record_lines c.args.nodes.now c.args.count) c.write_nodes-next.result c.write_nodes-next.new.text
+  node_lines opened w =
+      let f = length-append (line "table" (pos c.args.n ∷ c.args.offset ∷ [])) (record_lines c.args.nodes.now c.args.count) in
+      let p = c.requires.count_in_bounds in
+      writes_behind opened (omega arith) c.write_nodes-next.ensures
 
 pub write_line-first-requires : goal.write_line-first-requires
 unfolding line ascii
@@ -55,38 +55,37 @@ write_line-first-requires c =
     let s = (goal.at.write_line-first-requires c).Start in
     let f = front s in
     let w = whole s in
-    let p = s.requires.1 in
-    rw (to_z_pos w32 {n = s.args.n} s.requires.0.0, to_z-of_z s.ranges.offset) (omega arith)
+    let p = s.requires.count_in_bounds in
+    rw (to_z_pos w32 {n = s.args.n} s.requires.n_bound.0, to_z-of_z s.ranges.offset) (omega arith)
 
 pub write_nodes-next-requires : goal.write_nodes-next-requires
 write_nodes-next-requires c =
-    let d = (goal.at.write_nodes-next-requires c).After-write_line-first in
-    let s = start d in
-    let e = first_line d in
+    let s = (goal.at.write_nodes-next-requires c).Start in
+    let e = first_line (goal.at.write_nodes-next-requires c).After-write_line-first in
     let b = e.behind in
     let f = front s in
     let w = whole s in
-    let p = s.pre.1 in
+    let p = s.requires.count_in_bounds in
     let k = same_room e (omega arith) in
-    (s.pre.0.1, omega arith)
+    record { records_there = s.requires.n_bound.1; count_in_bounds = omega arith }
 
 pub write_count-requires : goal.write_count-requires
 unfolding line ascii
 write_count-requires c =
     let d = (goal.at.write_count-requires c).After-write_nodes-next in
-    let s = start (goal.at.write_count-requires c).After-write_line-first in
-    let e = node_lines d in
-    let b = e.behind in
+    let s = (goal.at.write_count-requires c).Start in
     let w = whole s in
-    let p = s.pre.1 in
+    let e = node_lines d (first_line (goal.at.write_count-requires c).After-write_line-first) w in
+    let b = e.behind in
+    let p = s.requires.count_in_bounds in
     let k = same_room e (omega arith) in
-    (s.pre.0.1.few, omega arith)
+    record { count_bound = s.requires.n_bound.1.few; count_in_bounds = omega arith }
 
 pub returns : goal.returns
 unfolding line ascii diagram_text
 returns c =
     let d = (goal.at.returns c).After-write_nodes-next in
-    let s = start (goal.at.returns c).After-write_line-first in
+    let s = (goal.at.returns c).Start in
     let w = whole s in
-    let p = s.pre.1 in
-    writes_behind (node_lines d) (omega arith) c.write_count.ensures
+    let p = s.requires.count_in_bounds in
+    writes_behind (node_lines d (first_line (goal.at.returns c).After-write_line-first) w) (omega arith) c.write_count.ensures

@@ -41,7 +41,7 @@ module _ (c : After-number_at-weight) where
   numbers : to_z w32 k ∷ to_z w32 (of_z w32 c.number_at-variable.result) ∷ to_z w32 (of_z w32 c.number_at-low.result) ∷ to_z w32 (of_z w32 c.number_at-high.result) ∷ to_z w32 (of_z w32 c.number_at-weight.result) ∷ [] ≡ pos k ∷ variable_at nodes k ∷ low_at nodes k ∷ high_at nodes k ∷ weight_at nodes k ∷ []
   unfolding variable_at low_at high_at weight_at
   numbers =
-      let number = to_z_pos w32 {n = k} c.requires.0.1 in
+      let number = to_z_pos w32 {n = k} c.requires.recorded.1 in
       let variable = to_z-of_z {w = w32} (sfits_of c.number_at-variable.type_inv) ∙ c.number_at-variable.ensures in
       let low = to_z-of_z {w = w32} (sfits_of c.number_at-low.type_inv) ∙ c.number_at-low.ensures in
       let high = to_z-of_z {w = w32} (sfits_of c.number_at-high.type_inv) ∙ c.number_at-high.ensures in
@@ -50,7 +50,7 @@ module _ (c : After-number_at-weight) where
 
 pub write_line-requires : goal.write_line-requires
 unfolding record_line line ascii
-write_line-requires c = rw (numbers (goal.at.write_line-requires c).After-number_at-weight) c.requires.1
+write_line-requires c = rw (numbers (goal.at.write_line-requires c).After-number_at-weight) c.requires.k_in_bounds
 
 pub returns : goal.returns
 unfolding record_line line ascii

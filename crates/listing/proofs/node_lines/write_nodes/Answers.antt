@@ -1,19 +1,19 @@
 -- `node_lines::write_nodes` meets its contract. The loop's invariant: the lines of the records so far are written.
-use Prim.Native.Nat.{◌+◌, ◌-◌, ◌≤◌, ◌<◌}
+use Prim.Native.Nat.{◌+◌, ◌≤◌, ◌<◌}
 use mathlib.Core.Path.{◌≡◌, ◌∙◌, ap}
 use native.Mathlib.Omega.{arith}
 use lib.ListN.{length, get_or}
 use Rattle.numbers.specs.Lists.{numbers_from}
 use Rattle.numbers.specs.Laws.Lists.{length_range, get_d_range}
 use Rattle.listing.specs.Inner.NodeLines.{record_line, record_lines}
-use Rattle.lines.specs.Laws.Pieces.{PiecesWritten, no_pieces, pieces_kept, piece_room, piece_written, all_pieces}
+use Rattle.lines.specs.Laws.Pieces.{no_pieces, pieces_kept, piece_room, piece_written, all_pieces}
 use Rattle.listing.proofs.node_lines.write_nodes.Goals as goal
 use Rattle.listing.proofs.node_lines.write_nodes.Goals.{At-loop-k, In-loop-k}
 
 module _ (c : At-loop-k) where
   -- The lines have room.
   room : c.args.at + length (record_lines c.args.nodes.now c.args.count) ≤ length c.args.text.now
-  room = c.requires.1
+  room = c.requires.count_in_bounds
 
   kept : length c.loop-k.text ≡ length c.args.text.now
   unfolding record_lines
@@ -31,7 +31,7 @@ pub loop-k-init : goal.loop-k-init
 loop-k-init c = let a = c.args in no_pieces (record_line a.nodes.now) (numbers_from 1 a.count) a.text.now a.at
 
 pub overflow_add-k : goal.overflow_add-k
-overflow_add-k c = let t = c.loop-k-test.true in let f = c.requires.0.few in omega arith
+overflow_add-k c = let t = c.loop-k-test.true in let f = c.requires.records_there.few in omega arith
 
 pub write_node-next-requires : goal.write_node-next-requires
 unfolding record_lines
@@ -39,14 +39,14 @@ write_node-next-requires c =
     let i = (goal.at.write_node-next-requires c).In-loop-k in
     let l = (goal.at.write_node-next-requires c).At-loop-k in
     let a = c.args in
-    let there = c.requires.0 in
+    let there = c.requires.records_there in
     let k = kept l in
     let next : l.loop-k.next + length (record_line a.nodes.now (l.loop-k.k + 1)) ≤ length a.text.now =
     rw (its_line i) at (piece_room (record_line a.nodes.now) (numbers_from 1 a.count) a.text.now a.at l.loop-k.invariant (room l) 0 (inside i)) in
     let t = i.loop-k-test.true in
     let n = there.inside in
     let f = there.few in
-    ((record { from_one = omega arith; among = omega arith }, omega arith), omega arith)
+    record { recorded = (record { from_one = omega arith; among = omega arith }, omega arith); k_in_bounds = omega arith }
 
 pub overflow_add-k-in-loop-k : goal.overflow_add-k-in-loop-k
 overflow_add-k-in-loop-k c = let t = c.loop-k-test.true in omega arith

@@ -3,11 +3,10 @@ use native.Mathlib.Omega.{arith}
 use Rattle.cascade.specs.Laws.Planned.{plan_refused, planned_groups}
 use Rattle.listing.specs.Listing.{answer_text}
 use Rattle.listing.specs.Laws.Texts.{text_ready, refusal_fits}
-use borrow.Author.Rules.{rules}
 use Rattle.listing.proofs.tables.list_table.Goals as goal
 
 pub write_refusal-requires : goal.write_refusal-requires
-write_refusal-requires c = let k = c.known_told-1.given in refusal_fits _ c.args.text.now (omega arith) c.requires.1
+write_refusal-requires c = refusal_fits _ c.args.text.now (omega arith) c.requires.1
 
 pub write_table-requires : goal.write_table-requires
 write_table-requires c = text_ready c.args.n c.args.table.now c.args.limit c.plan-planned.result _ _ c.args.text.now c.requires.0 c.plan-planned.ensures c.in-Grouping.is c.requires.1

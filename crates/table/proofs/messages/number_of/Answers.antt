@@ -1,6 +1,5 @@
 -- `messages::number_of` meets its contract, case by case.
 use mathlib.Core.Path.{sym, ap}
-use borrow.Author.Rules.{rules}
 use Rattle.decimal.specs.Table.{refusal_number}
 use Rattle.table.proofs.messages.number_of.Goals as goal
 

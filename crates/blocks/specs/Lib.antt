@@ -6,11 +6,5 @@ pub mod Searching
 pub mod Tries
 pub mod Uses
 pub mod Rows
-pub mod SearchTheorems
-pub mod WorkedCuts
-pub mod UseTheorems
-pub mod WorkedUses
 -- What inner functions promise and hold.
 pub mod Inner
--- What is proved of all that, which proofs cite.
-pub mod Laws

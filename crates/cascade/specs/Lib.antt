@@ -3,9 +3,6 @@ pub mod Cascade
 pub mod Groupings
 pub mod Plan
 pub mod Compile
-pub mod Theorems
 pub mod Rows
 -- What inner functions promise and hold.
 pub mod Inner
--- What is proved of all that, which proofs cite.
-pub mod Laws

@@ -9,5 +9,3 @@ pub mod PairCases
 pub mod CascadeCases
 pub mod ReachCases
 pub mod SumCases
--- What is proved of all that, which proofs cite.
-pub mod Laws

@@ -1,5 +1,3 @@
 -- Nothing of the paper is said here: Compile is defined in cascade.
 -- What inner functions promise and hold.
 pub mod Inner
--- What is proved of all that, which proofs cite.
-pub mod Laws

@@ -4,9 +4,5 @@ pub mod Numbers
 pub mod Table
 pub mod Text
 pub mod Conditions
-pub mod Theorems
-pub mod Examples
 -- What inner functions promise and hold.
 pub mod Inner
--- What is proved of all that, which proofs cite.
-pub mod Laws

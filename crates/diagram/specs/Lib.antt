@@ -3,10 +3,6 @@ pub mod Records
 pub mod Build
 pub mod Walk
 pub mod Accepted
-pub mod Theorems
 pub mod Bound
-pub mod NodeBound
 -- What inner functions promise and hold.
 pub mod Inner
--- What is proved of all that, which proofs cite.
-pub mod Laws

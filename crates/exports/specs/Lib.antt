@@ -8,5 +8,3 @@ pub mod ImageGiven
 pub mod CascadeGiven
 pub mod ReachGiven
 pub mod SumGiven
--- What is proved of all that, which proofs cite.
-pub mod Laws

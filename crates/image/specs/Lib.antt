@@ -6,8 +6,5 @@ pub mod Reader
 pub mod WellFormed
 pub mod Run
 pub mod OlderWidths
-pub mod Theorems
 -- What inner functions promise and hold.
 pub mod Inner
--- What is proved of all that, which proofs cite.
-pub mod Laws

@@ -3,8 +3,5 @@ pub mod Listing
 pub mod Lines
 pub mod Program
 pub mod Kept
-pub mod Theorems
 -- What inner functions promise and hold.
 pub mod Inner
--- What is proved of all that, which proofs cite.
-pub mod Laws

@@ -5,8 +5,5 @@ pub mod Extremes
 pub mod Ranges
 pub mod Widths
 pub mod Conditions
-pub mod Theorems
 -- What inner functions promise and hold.
 pub mod Inner
--- What is proved of all that, which proofs cite.
-pub mod Laws

@@ -2,5 +2,3 @@
 pub mod Input
 -- What inner functions promise and hold.
 pub mod Inner
--- What is proved of all that, which proofs cite.
-pub mod Laws

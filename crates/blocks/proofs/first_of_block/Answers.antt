@@ -10,7 +10,7 @@ use lib.IntN.{pos}
 use mir.Facts.{to_z-of_z}
 use borrow.Author.Rules.{scaled_Fits}
 use Rattle.blocks.specs.Blocks.{first}
-use Rattle.blocks.specs.Laws.Blocks.{block_at}
+use Rattle.blocks.proofs.Laws.Blocks.{block_at}
 use Rattle.blocks.proofs.first_of_block.Goals as goal
 use Rattle.blocks.proofs.first_of_block.Goals.{After-power}
 

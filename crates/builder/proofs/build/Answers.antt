@@ -1,7 +1,7 @@
 -- `builder::build` meets its contract.
 use mathlib.Core.Path.{sym, ◌∙◌, ap}
 use Rattle.numbers.specs.Inner.Checks.{checked}
-use Rattle.diagram.specs.Laws.Builds.{passed_table, build_unfit}
+use Rattle.diagram.proofs.Laws.Builds.{passed_table, build_unfit}
 use Rattle.builder.proofs.build.Goals as goal
 
 pub build_checked-requires : goal.build_checked-requires

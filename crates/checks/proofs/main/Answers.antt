@@ -5,7 +5,7 @@ use native.Mathlib.Omega.{arith}
 use lib.ListN.{length}
 use lib.Seq.{length-take-le}
 use borrow.Author.Rules.{rules}
-use Rattle.stdin.specs.Laws.{kept_count}
+use Rattle.stdin.proofs.Laws.{kept_count}
 use Rattle.checks.proofs.main.Goals as goal
 use Rattle.checks.proofs.main.Goals.{In-Kept}
 

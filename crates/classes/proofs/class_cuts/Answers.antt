@@ -5,8 +5,8 @@ use mathlib.Core.Path.{◌≡◌, sym, ◌∙◌, subst}
 use native.Mathlib.Omega.{arith}
 use mir.Facts.{Fits-of_lt}
 use Rattle.numbers.specs.Ranges.{most_variables}
-use Rattle.classes.specs.Laws.CutRows.{CutAt, count_small, within_classes, within_firsts, within_tried, within_uses, within_use_counts, cut_room, cut_placed}
-use Rattle.classes.specs.Laws.AllCuts.{CutsSoFar, no_cut, cuts_next, cuts_done}
+use Rattle.classes.proofs.Laws.CutRows.{CutAt, count_small, within_classes, within_firsts, within_tried, within_uses, within_use_counts, cut_room, cut_placed}
+use Rattle.classes.proofs.Laws.AllCuts.{CutsSoFar, no_cut, cuts_next, cuts_done}
 use Rattle.classes.proofs.class_cuts.Goals as goal
 use Rattle.classes.proofs.class_cuts.Goals.{After-power-size, In-loop-h}
 

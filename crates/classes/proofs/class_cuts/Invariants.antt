@@ -1,5 +1,5 @@
 use Prim.Native.Nat.{suc, ◌-◌}
-use Rattle.classes.specs.Laws.AllCuts.{CutsSoFar}
+use Rattle.classes.proofs.Laws.AllCuts.{CutsSoFar}
 use Rattle.classes.proofs.class_cuts.Given as goal
 
 abbrev pub invariant-loop-h : goal.invariant-loop-h

@@ -4,7 +4,7 @@ use mathlib.Core.Path.{sym, ◌∙◌}
 use lib.ListN.{length}
 use lib.Seq.{length-take-le}
 use Rattle.numbers.specs.Ranges.{most_variables}
-use Rattle.blocks.specs.Laws.Cuts.{places_most}
+use Rattle.blocks.proofs.Laws.Cuts.{places_most}
 use Rattle.classes.proofs.class_table.Goals as goal
 use Rattle.classes.proofs.class_table.Goals.{After-class_cuts-arg-3-1}
 

@@ -3,9 +3,9 @@ use mathlib.Core.Path.{refl, ◌∙◌, ap, subst⁻¹}
 use Rattle.cascade.specs.Compile.{Compiles}
 use Rattle.cascade.specs.declared.Compiled.{Compiled}
 use Rattle.compiler.specs.Inner.Placing.{not_compiled, refusal_of}
-use Rattle.cascade.specs.Laws.Planned.{plan_refused, planned_groups}
-use Rattle.compiler.specs.Laws.Compiles.{handed_on, placed_compiles}
-use Rattle.compiler.specs.Laws.Ready.{table_ready}
+use Rattle.cascade.proofs.Laws.Planned.{plan_refused, planned_groups}
+use Rattle.compiler.proofs.Laws.Compiles.{handed_on, placed_compiles}
+use Rattle.compiler.proofs.Laws.Ready.{table_ready}
 use Rattle.compiler.proofs.compile.Goals as goal
 
 pub returns-in_default : goal.returns-in_default

@@ -7,9 +7,9 @@ use Rattle.numbers.specs.Ranges.{most_variables}
 use Rattle.decimal.specs.Table.{input_room}
 use Rattle.decimal.specs.declared.Expected.TheVariants.{Variables}
 use Rattle.decimal.specs.declared.Heading.{Heading}
-use Rattle.decimal.specs.Laws.Positions.{start_place}
-use Rattle.decimal.specs.Laws.Items.{HeadingFound, HeadingSeen, heading_seen}
-use Rattle.decimal.specs.Laws.Tables.{no_variables, variables_first, wrong_answers, reads_short, reads_enough}
+use Rattle.decimal.proofs.Laws.Positions.{start_place}
+use Rattle.decimal.proofs.Laws.Items.{HeadingFound, HeadingSeen, heading_seen}
+use Rattle.decimal.proofs.Laws.Tables.{no_variables, variables_first, wrong_answers, reads_short, reads_enough}
 use Rattle.decimal.proofs.parse.Goals as goal
 use Rattle.decimal.proofs.parse.Goals.{After-heading, In-Found}
 

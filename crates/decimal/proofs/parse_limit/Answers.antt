@@ -7,8 +7,8 @@ use Rattle.decimal.specs.declared.Expected.TheVariants.{Limit, LineEnd}
 use Rattle.decimal.specs.declared.Heading.{Heading}
 use Rattle.decimal.specs.Inner.Positions.{words_at}
 use Rattle.decimal.specs.Inner.Values.{limit_at}
-use Rattle.decimal.specs.Laws.Items.{HeadingFound, HeadingSeen, heading_seen}
-use Rattle.decimal.specs.Laws.Tables.{no_limit, limit_second, body_more, body_values, wrong_answers, same_answers}
+use Rattle.decimal.proofs.Laws.Items.{HeadingFound, HeadingSeen, heading_seen}
+use Rattle.decimal.proofs.Laws.Tables.{no_limit, limit_second, body_more, body_values, wrong_answers, same_answers}
 use Rattle.decimal.proofs.parse_limit.Goals as goal
 use Rattle.decimal.proofs.parse_limit.Goals.{After-heading, In-Found}
 

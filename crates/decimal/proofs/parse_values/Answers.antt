@@ -12,9 +12,9 @@ use Rattle.decimal.specs.Table.{got, Table, values_read, input_room, values_foun
 use Rattle.decimal.specs.declared.Body.TheVariants.{Good}
 use Rattle.decimal.specs.Inner.Positions.{words_at}
 use Rattle.decimal.specs.Inner.Values.{table_at, body_judged}
-use Rattle.decimal.specs.Laws.Values.{good_values}
-use Rattle.decimal.specs.Laws.Buffers.{front_taken}
-use Rattle.decimal.specs.Laws.Tables.{table_wrong, table_good, wrong_answers, got_answers}
+use Rattle.decimal.proofs.Laws.Values.{good_values}
+use Rattle.decimal.proofs.Laws.Buffers.{front_taken}
+use Rattle.decimal.proofs.Laws.Tables.{table_wrong, table_good, wrong_answers, got_answers}
 use Rattle.decimal.proofs.parse_values.Goals as goal
 use Rattle.decimal.proofs.parse_values.Goals.{After-power-count, After-read_values, In-Good}
 

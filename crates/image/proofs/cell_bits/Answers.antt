@@ -5,10 +5,10 @@ use native.Mathlib.Omega.{arith}
 use mir.Facts.{Fits-of_lt}
 use Rattle.numbers.specs.Ranges.{widest_address}
 use Rattle.numbers.specs.Widths.{cell_bits}
-use Rattle.numbers.specs.Laws.Pieces.{shifted_one}
+use Rattle.numbers.proofs.Laws.Pieces.{shifted_one}
 use Rattle.image.specs.Inner.Bounds.{most_bits}
 use Rattle.image.specs.Reader.{most_classes}
-use Rattle.image.specs.Laws.Bounds.{rail_narrow, cell_bits_most}
+use Rattle.image.proofs.Laws.Bounds.{rail_narrow, cell_bits_most}
 use Rattle.image.proofs.cell_bits.Goals as goal
 use Rattle.image.proofs.cell_bits.Goals.{After-rail_width, After-rail_width-2}
 

@@ -1,7 +1,7 @@
 -- `list::main` is safe: the kept bytes are within the buffer.
 use Rattle.std.proofs.Common.{◌≤◌, arith, length, sym}
 use lib.Seq.{length-take-le}
-use Rattle.stdin.specs.Laws.{kept_count}
+use Rattle.stdin.proofs.Laws.{kept_count}
 use Rattle.list.proofs.main.Goals as goal
 use Rattle.list.proofs.main.Goals.{In-Kept}
 

@@ -3,7 +3,7 @@ use mathlib.Core.Path.{◌∙◌, ap}
 use native.Mathlib.Nat.{zero-add}
 use lib.ListN.{length}
 use borrow.Author.Tests.{le-leb, lt-leb}
-use Rattle.numbers.specs.Laws.Rows.{overwritten_front}
+use Rattle.numbers.proofs.Laws.Rows.{overwritten_front}
 use Rattle.listing.specs.Listing.{listing}
 use Rattle.listing.specs.Program.{text_room, list_answer, list_buffer}
 use Rattle.listing.specs.declared.Listed.TheVariants.{Text}

@@ -4,8 +4,8 @@ use native.Mathlib.Omega.{arith}
 use Rattle.numbers.specs.Answers.{refused}
 use Rattle.listing.specs.Listing.{listed}
 use Rattle.listing.specs.Inner.Listed.{InputCounted}
-use Rattle.listing.specs.Laws.Listed.{Checked, turned_away, passed, checked, listed_refused, refusal_listed}
-use Rattle.listing.specs.Laws.Texts.{refusal_fits}
+use Rattle.listing.proofs.Laws.Listed.{Checked, turned_away, passed, checked, listed_refused, refusal_listed}
+use Rattle.listing.proofs.Laws.Texts.{refusal_fits}
 use Rattle.listing.proofs.list_input.Goals as goal
 use Rattle.listing.proofs.list_input.Goals.{Else-number-ne0, Then-number-ne0}
 

@@ -3,7 +3,7 @@ use Prim.Native.Nat.{◌≤◌}
 use native.Mathlib.Omega.{arith}
 use lib.ListN.{length}
 use Rattle.listing.specs.Program.{text_room}
-use Rattle.listing.specs.Laws.Kept.{text_answered, text_listed}
+use Rattle.listing.proofs.Laws.Kept.{text_answered, text_listed}
 use Rattle.listing.proofs.list_kept.Goals as goal
 use Rattle.listing.proofs.list_kept.Goals.{After-list}
 

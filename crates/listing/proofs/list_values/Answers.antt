@@ -10,8 +10,8 @@ use lib.IntN.{ℤ, pos}
 use Rattle.listing.specs.Listing.{most_listed, table_of}
 use Rattle.listing.specs.Inner.Values.{values_of}
 use Rattle.listing.specs.Inner.Listed.{InputCounted}
-use Rattle.listing.specs.Laws.Listed.{listed_range, table_length, plan_listed}
-use Rattle.listing.specs.Laws.Values.{values_table}
+use Rattle.listing.proofs.Laws.Listed.{listed_range, table_length, plan_listed}
+use Rattle.listing.proofs.Laws.Values.{values_table}
 use Rattle.listing.proofs.list_values.Goals as goal
 
 abbrev zeros : List ℤ

@@ -1,7 +1,7 @@
 -- `operands::read_one` meets its contract.
 use mathlib.Core.Path.{sym, ◌∙◌}
 use native.Mathlib.Omega.{arith}
-use Rattle.operands.specs.Laws.Operands.{unsigned_one}
+use Rattle.operands.proofs.Laws.Operands.{unsigned_one}
 use Rattle.operands.proofs.read_one.Goals as goal
 
 pub byte-requires : goal.byte-requires

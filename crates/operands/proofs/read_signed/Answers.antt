@@ -4,7 +4,7 @@ use mir.Syntax.{w32}
 use mir.Val.{to_z}
 use mir.Facts.{to_z-of_z}
 use Rattle.operands.specs.Bytes.{signed_at}
-use Rattle.operands.specs.Laws.Operands.{signed_upper, signed_upper_fits}
+use Rattle.operands.proofs.Laws.Operands.{signed_upper, signed_upper_fits}
 use Rattle.operands.proofs.read_signed.Goals as goal
 
 pub returns-then-bits-lt2147483648 : goal.returns-then-bits-lt2147483648

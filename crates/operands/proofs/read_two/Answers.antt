@@ -2,7 +2,7 @@
 use Prim.Native.Nat.{◌+◌, ◌*◌}
 use mathlib.Core.Path.{sym, ◌∙◌, ap₂}
 use native.Mathlib.Omega.{arith}
-use Rattle.operands.specs.Laws.Operands.{unsigned_two}
+use Rattle.operands.proofs.Laws.Operands.{unsigned_two}
 use Rattle.operands.proofs.read_two.Goals as goal
 
 pub returns : goal.returns

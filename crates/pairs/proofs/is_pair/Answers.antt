@@ -3,7 +3,7 @@ use Prim.Native.Nat.{◌^◌}
 use native.Mathlib.Omega.{arith}
 use borrow.Author.Tests.{lt-ltb, le-ltb}
 use Rattle.pairs.specs.Pairs.{is_pair}
-use Rattle.pairs.specs.Laws.Answers.{bits_test}
+use Rattle.pairs.proofs.Laws.Answers.{bits_test}
 use Rattle.pairs.proofs.is_pair.Goals as goal
 
 pub power-side-requires : goal.power-side-requires

@@ -4,8 +4,8 @@ use mathlib.Core.Path.{sym, ap, subst}
 use native.Mathlib.Omega.{arith}
 use lib.Pow.{pow_mono}
 use Rattle.pairs.specs.Pairs.{pair_index}
-use Rattle.pairs.specs.Laws.Answers.{bits_test, pair_test}
-use Rattle.pairs.specs.Laws.Indices.{product_small}
+use Rattle.pairs.proofs.Laws.Answers.{bits_test, pair_test}
+use Rattle.pairs.proofs.Laws.Indices.{product_small}
 use Rattle.pairs.proofs.pair_index.Goals as goal
 use Rattle.pairs.proofs.pair_index.Goals.{After-power}
 

@@ -5,16 +5,16 @@ use mathlib.Core.Bool.{true}
 use mathlib.Core.List.{List}
 use native.Mathlib.Omega.{arith}
 use Rattle.numbers.specs.Answers.{accepted}
-use Rattle.numbers.specs.Laws.Answers.{map_refused}
+use Rattle.numbers.proofs.Laws.Answers.{map_refused}
 use Rattle.image.specs.declared.Command.{Command}
 use Rattle.numbers.specs.Inner.Checks.{checked}
 use Rattle.image.specs.Reader.{reading_for}
 use Rattle.image.specs.Run.{ran, run}
-use Rattle.image.specs.Laws.Reading.{done}
-use Rattle.image.specs.Laws.ReadingFor.{for_accepted}
-use Rattle.image.specs.Laws.Running.{done_accepted}
+use Rattle.image.proofs.Laws.Reading.{done}
+use Rattle.image.proofs.Laws.ReadingFor.{for_accepted}
+use Rattle.image.proofs.Laws.Running.{done_accepted}
 use Rattle.pairs.specs.Pairs.{is_pair_bits, is_pair}
-use Rattle.pairs.specs.Laws.Answers.{bits_test, bits_refused, image_refused, pair_refused, pair_run_lem}
+use Rattle.pairs.proofs.Laws.Answers.{bits_test, bits_refused, image_refused, pair_refused, pair_run_lem}
 use Rattle.pairs.proofs.pair_run.Goals as goal
 use Rattle.pairs.proofs.pair_run.Goals.{Else-not-is_pair, Else-not-is_pair_bits, In-Passed, Start}
 

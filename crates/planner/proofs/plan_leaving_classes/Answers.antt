@@ -2,11 +2,11 @@
 use mathlib.Core.Path.{sym, ◌∙◌, ap, subst⁻¹}
 use Rattle.diagram.specs.Accepted.{Accepted}
 use Rattle.numbers.specs.Inner.Checks.{checked}
-use Rattle.diagram.specs.Laws.Builds.{passed_table}
+use Rattle.diagram.proofs.Laws.Builds.{passed_table}
 use Rattle.cascade.specs.Plan.{Plans}
 use Rattle.cascade.specs.declared.Planned.{Planned}
-use Rattle.planner.specs.Laws.Plans.{refused_plans, plan_unfit, plan_limited}
-use Rattle.planner.specs.Laws.Rows.{rows_filled, rows_kept, classed, unclassed}
+use Rattle.planner.proofs.Laws.Plans.{refused_plans, plan_unfit, plan_limited}
+use Rattle.planner.proofs.Laws.Rows.{rows_filled, rows_kept, classed, unclassed}
 use Rattle.planner.proofs.plan_leaving_classes.Goals as goal
 use Rattle.planner.proofs.plan_leaving_classes.Goals.{In-Passed}
 

@@ -3,9 +3,9 @@ use mathlib.Core.Path.{◌≡◌, sym, ◌∙◌, ap}
 use Rattle.numbers.specs.Answers.{accepted, unless}
 use Rattle.numbers.specs.Ranges.{is_limit}
 use Rattle.numbers.specs.Inner.Checks.{checked}
-use Rattle.diagram.specs.Laws.Builds.{passed_table}
+use Rattle.diagram.proofs.Laws.Builds.{passed_table}
 use Rattle.reach.specs.Inner.Checks.{call_checks}
-use Rattle.reach.specs.Laws.Checks.{call_unfit, call_limited}
+use Rattle.reach.proofs.Laws.Checks.{call_unfit, call_limited}
 use Rattle.reach.proofs.check_call.Goals as goal
 use Rattle.reach.proofs.check_call.Goals.{In-Passed}
 

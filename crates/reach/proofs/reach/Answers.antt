@@ -11,15 +11,15 @@ use lib.Pow.{pow_pos}
 use mir.Facts.{Fits-of_lt}
 use Rattle.numbers.specs.Ranges.{is_limit, most_variables}
 use Rattle.blocks.specs.Rows.{cut_place, all_counts}
-use Rattle.blocks.specs.Laws.Cuts.{places_most}
-use Rattle.blocks.specs.Laws.Places.{length_counts}
+use Rattle.blocks.proofs.Laws.Cuts.{places_most}
+use Rattle.blocks.proofs.Laws.Places.{length_counts}
 use Rattle.diagram.specs.Accepted.{Accepted}
 use Rattle.numbers.specs.Inner.Checks.{checked}
-use Rattle.cascade.specs.Laws.Cells.{variables_most}
+use Rattle.cascade.proofs.Laws.Cells.{variables_most}
 use Rattle.reach.specs.Reach.{Reaches}
 use Rattle.reach.specs.declared.Reached.{Reached}
-use Rattle.reach.specs.Laws.Checks.{call_refused, call_admits}
-use Rattle.reach.specs.Laws.Reaching.{counts_ready, counts_reach, refused_reaches}
+use Rattle.reach.proofs.Laws.Checks.{call_refused, call_admits}
+use Rattle.reach.proofs.Laws.Reaching.{counts_ready, counts_reach, refused_reaches}
 use Rattle.reach.proofs.reach.Goals as goal
 use Rattle.reach.proofs.reach.Goals.{After-class_table, After-power-places, In-Passed}
 

@@ -7,8 +7,8 @@ use Rattle.image.specs.declared.Place.{Place}
 use Rattle.operands.specs.Bytes.{AreBytes}
 use Rattle.numbers.specs.Inner.Checks.{checked}
 use Rattle.image.specs.Reader.{step, stepped}
-use Rattle.image.specs.Laws.Reading.{Checking, done, checking_start, checking_refused, checking_last, checking_on, step_moves}
-use Rattle.image.specs.Laws.Steps.{step_accepted}
+use Rattle.image.proofs.Laws.Reading.{Checking, done, checking_start, checking_refused, checking_last, checking_on, step_moves}
+use Rattle.image.proofs.Laws.Steps.{step_accepted}
 use Rattle.reader.proofs.check.Goals as goal
 use Rattle.reader.proofs.check.Goals.{In-Read}
 

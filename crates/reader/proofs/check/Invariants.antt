@@ -1,6 +1,6 @@
 use Prim.Native.Nat.{◌-◌}
 use lib.ListN.{length}
-use Rattle.image.specs.Laws.Reading.{Checking}
+use Rattle.image.proofs.Laws.Reading.{Checking}
 use Rattle.reader.proofs.check.Given as goal
 
 abbrev pub invariant-loop-number : goal.invariant-loop-number

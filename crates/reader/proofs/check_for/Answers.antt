@@ -1,8 +1,8 @@
 -- `reader::reading::check_for` meets its contract: another n is 13, else the image is read as ever.
 use mathlib.Core.Path.{sym, ◌∙◌, ap}
 use Rattle.numbers.specs.Inner.Checks.{checked}
-use Rattle.image.specs.Laws.Reading.{done}
-use Rattle.image.specs.Laws.ReadingFor.{other_refused, other_not}
+use Rattle.image.proofs.Laws.Reading.{done}
+use Rattle.image.proofs.Laws.ReadingFor.{other_refused, other_not}
 use Rattle.reader.proofs.check_for.Goals as goal
 
 pub returns-then-has_other_n : goal.returns-then-has_other_n

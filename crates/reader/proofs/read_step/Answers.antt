@@ -6,7 +6,7 @@ use native.Mathlib.Omega.{arith}
 use lib.ListN.{length, get_or}
 use Rattle.image.specs.Inner.Kinds.{kind_of}
 use Rattle.image.specs.Reader.{due, due_byte, due_size, command_at, width_is_least, judged, stepped}
-use Rattle.image.specs.Laws.Steps.{step_wide, step_none, step_other, step_cut, step_judged, command_kind}
+use Rattle.image.proofs.Laws.Steps.{step_wide, step_none, step_other, step_cut, step_judged, command_kind}
 use Rattle.reader.proofs.read_step.Goals as goal
 use Rattle.reader.proofs.read_step.Goals.{After-command_at, After-command_byte, After-command_size, Else-byte-command_byte, Else-image-at-2, Else-not-width_is_least, Start}
 

@@ -14,16 +14,16 @@ use Rattle.numbers.specs.Answers.{accepted}
 use Rattle.numbers.specs.Extremes.{least_of, greatest_of}
 use Rattle.numbers.specs.Lists.{exact_sum}
 use Rattle.numbers.specs.Ranges.{lesser, greater}
-use Rattle.numbers.specs.Laws.Extremal.{leasts, greatests}
+use Rattle.numbers.proofs.Laws.Extremal.{leasts, greatests}
 use Rattle.diagram.specs.Walk.{walk_value}
 use Rattle.diagram.specs.Inner.Edges.{descend, Passing, PathReady}
-use Rattle.diagram.specs.Laws.Checks.{variables_range}
+use Rattle.diagram.proofs.Laws.Checks.{variables_range}
 use Rattle.diagram.specs.declared.Waypoint.{Waypoint}
 use Rattle.report.specs.Report.{values_from, Figures, figures_of, reported}
-use Rattle.report.specs.Laws.Answers.{part_order}
-use Rattle.report.specs.Laws.Reports.{values_count, extreme_one, extreme_more, sum_one, sum_more, part_sum_small}
+use Rattle.report.proofs.Laws.Answers.{part_order}
+use Rattle.report.proofs.Laws.Reports.{values_count, extreme_one, extreme_more, sum_one, sum_more, part_sum_small}
 use Rattle.report.specs.Inner.Tops.{lowest_of, top_at}
-use Rattle.report.specs.Laws.Tops.{top_value, top_ready}
+use Rattle.report.proofs.Laws.Tops.{top_value, top_ready}
 use Rattle.report.proofs.figures.Goals as goal
 use Rattle.report.proofs.figures.Goals.{After-greater_of-greatest, Start}
 

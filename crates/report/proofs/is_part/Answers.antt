@@ -1,7 +1,7 @@
 -- `reporter::is_part` meets its contract.
 use mathlib.Core.Path.{sym, ◌∙◌, ap}
 use lib.Dec.{ltb}
-use Rattle.report.specs.Laws.Answers.{part_turned, part_left}
+use Rattle.report.proofs.Laws.Answers.{part_turned, part_left}
 use Rattle.report.proofs.is_part.Goals as goal
 
 pub returns-then-b-a : goal.returns-then-b-a

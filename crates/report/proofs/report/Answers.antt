@@ -4,7 +4,7 @@ use mir.Syntax.{w32}
 use mir.Facts.{to_z-of_z}
 use Rattle.diagram.specs.Inner.Checks.{list_checks}
 use Rattle.numbers.specs.Inner.Checks.{checked}
-use Rattle.diagram.specs.Laws.Lists.{list_passed, list_unfit}
+use Rattle.diagram.proofs.Laws.Lists.{list_passed, list_unfit}
 use Rattle.report.specs.Report.{report, reported}
 use Rattle.report.proofs.report.Goals as goal
 use Rattle.report.proofs.report.Goals.{After-check_list}

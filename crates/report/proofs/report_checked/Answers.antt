@@ -4,9 +4,9 @@ use mathlib.Core.Bool.{true}
 use native.Mathlib.Omega.{arith}
 use mir.Facts.{to_z-of_z}
 use Rattle.numbers.specs.Answers.{accepted}
-use Rattle.diagram.specs.Laws.Checks.{variables_range}
+use Rattle.diagram.proofs.Laws.Checks.{variables_range}
 use Rattle.report.specs.Report.{values_from, figures_of, is_part, reported}
-use Rattle.report.specs.Laws.Answers.{report_outside, report_inside}
+use Rattle.report.proofs.Laws.Answers.{report_outside, report_inside}
 use Rattle.report.proofs.report_checked.Goals as goal
 use Rattle.report.proofs.report_checked.Goals.{Else-not-is_part}
 

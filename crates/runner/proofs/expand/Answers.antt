@@ -2,8 +2,8 @@
 use mathlib.Core.Path.{sym}
 use lib.ListN.{length}
 use Rattle.numbers.specs.Inner.Checks.{checked}
-use Rattle.image.specs.Laws.Reading.{done}
-use Rattle.image.specs.Laws.Running.{check_refuses, check_accepts, expand_refused, expands_refused}
+use Rattle.image.proofs.Laws.Reading.{done}
+use Rattle.image.proofs.Laws.Running.{check_refuses, check_accepts, expand_refused, expands_refused}
 use Rattle.runner.proofs.expand.Goals as goal
 
 pub expand_accepted-requires : goal.expand_accepted-requires

@@ -4,8 +4,8 @@ use mathlib.Core.Path.{◌≡◌}
 use native.Mathlib.Omega.{arith}
 use lib.ListN.{length}
 use Rattle.image.specs.Inner.Evaluation.{card_read}
-use Rattle.image.specs.Laws.Evaluating.{variables_narrow, variables_size}
-use Rattle.image.specs.Laws.Running.{expand_room, expands_refused, expands_table}
+use Rattle.image.proofs.Laws.Evaluating.{variables_narrow, variables_size}
+use Rattle.image.proofs.Laws.Running.{expand_room, expands_refused, expands_table}
 use Rattle.runner.proofs.expand_accepted.Goals as goal
 use Rattle.runner.proofs.expand_accepted.Goals.{After-variables}
 

@@ -2,8 +2,8 @@
 use mathlib.Core.Path.{sym}
 use Rattle.numbers.specs.Inner.Checks.{checked}
 use Rattle.image.specs.Run.{ran}
-use Rattle.image.specs.Laws.Reading.{done}
-use Rattle.image.specs.Laws.Running.{check_refuses, check_accepts, run_refused}
+use Rattle.image.proofs.Laws.Reading.{done}
+use Rattle.image.proofs.Laws.Running.{check_refuses, check_accepts, run_refused}
 use Rattle.runner.proofs.run.Goals as goal
 
 pub run_accepted-requires : goal.run_accepted-requires

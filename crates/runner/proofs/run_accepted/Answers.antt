@@ -7,8 +7,8 @@ use borrow.Author.Rules.{rules}
 use Rattle.numbers.specs.Answers.{accepted}
 use Rattle.image.specs.Inner.Evaluation.{card_read, result_of}
 use Rattle.image.specs.Run.{ran}
-use Rattle.image.specs.Laws.Evaluating.{variables_narrow, variables_size}
-use Rattle.image.specs.Laws.Running.{run_late, run_value}
+use Rattle.image.proofs.Laws.Evaluating.{variables_narrow, variables_size}
+use Rattle.image.proofs.Laws.Running.{run_late, run_value}
 use Rattle.runner.proofs.run_accepted.Goals as goal
 use Rattle.runner.proofs.run_accepted.Goals.{After-variables}
 

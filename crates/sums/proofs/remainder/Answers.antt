@@ -4,8 +4,8 @@ use lib.ListN.{length}
 use Rattle.numbers.specs.Answers.{unless}
 use Rattle.numbers.specs.Inner.Checks.{checked}
 use Rattle.sums.specs.Sums.{remainder_table, is_remainder_bits, into_room, reduced_sum}
-use Rattle.sums.specs.Laws.Answers.{fills_refused}
-use Rattle.sums.specs.Laws.Checks.{unfit, passed_weights}
+use Rattle.sums.proofs.Laws.Answers.{fills_refused}
+use Rattle.sums.proofs.Laws.Checks.{unfit, passed_weights}
 use Rattle.sums.proofs.remainder.Goals as goal
 
 pub remainder_weighted-requires : goal.remainder_weighted-requires

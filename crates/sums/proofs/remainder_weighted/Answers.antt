@@ -7,9 +7,9 @@ use native.Mathlib.Omega.{arith}
 use lib.ListN.{length}
 use lib.IntN.{pos}
 use Rattle.sums.specs.Sums.{remainder_by, remainder_table, is_remainder_bits, reduced_sum}
-use Rattle.sums.specs.Laws.Answers.{unadmitted, unroomed, answered, fills_refused, fills_whole}
-use Rattle.sums.specs.Laws.Classes.{bits_test, remainders_length}
-use Rattle.sums.specs.Laws.Summable.{few_variables, weighted_summable}
+use Rattle.sums.proofs.Laws.Answers.{unadmitted, unroomed, answered, fills_refused, fills_whole}
+use Rattle.sums.proofs.Laws.Classes.{bits_test, remainders_length}
+use Rattle.sums.proofs.Laws.Summable.{few_variables, weighted_summable}
 use Rattle.sums.proofs.remainder_weighted.Goals as goal
 use Rattle.sums.proofs.remainder_weighted.Goals.{Else-not-is_remainder_bits, Else-table-power}
 

@@ -6,8 +6,8 @@ use Rattle.numbers.specs.Lists.{every}
 use Rattle.numbers.specs.Ranges.{is_value}
 use Rattle.numbers.specs.Inner.Checks.{checked}
 use Rattle.sums.specs.Sums.{sum_table, into_room, plain_sum}
-use Rattle.sums.specs.Laws.Answers.{fills_refused}
-use Rattle.sums.specs.Laws.Checks.{unfit, passed_weights}
+use Rattle.sums.proofs.Laws.Answers.{fills_refused}
+use Rattle.sums.proofs.Laws.Checks.{unfit, passed_weights}
 use Rattle.sums.proofs.sum.Goals as goal
 
 pub sum_weighted-requires : goal.sum_weighted-requires

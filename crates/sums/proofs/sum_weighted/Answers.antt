@@ -7,9 +7,9 @@ use lib.ListN.{length}
 use Rattle.numbers.specs.Lists.{every}
 use Rattle.numbers.specs.Ranges.{is_value}
 use Rattle.sums.specs.Sums.{sum_table, plain_sum}
-use Rattle.sums.specs.Laws.Answers.{unadmitted, unroomed, answered, fills_refused, fills_whole}
-use Rattle.sums.specs.Laws.Split.{table_length}
-use Rattle.sums.specs.Laws.Summable.{few_variables, weighted_summable}
+use Rattle.sums.proofs.Laws.Answers.{unadmitted, unroomed, answered, fills_refused, fills_whole}
+use Rattle.sums.proofs.Laws.Split.{table_length}
+use Rattle.sums.proofs.Laws.Summable.{few_variables, weighted_summable}
 use Rattle.sums.proofs.sum_weighted.Goals as goal
 use Rattle.sums.proofs.sum_weighted.Goals.{Else-not-sums_fit, Else-table-power}
 

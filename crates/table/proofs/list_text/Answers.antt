@@ -6,7 +6,7 @@ use lib.Seq.{length-take-le}
 use Rattle.numbers.specs.Ranges.{most_variables}
 use Rattle.decimal.specs.Table.{input_room}
 use Rattle.listing.specs.Program.{text_room}
-use Rattle.table.specs.Laws.{room_enough, wrong_listed, input_inside, input_listed}
+use Rattle.table.proofs.Laws.{room_enough, wrong_listed, input_inside, input_listed}
 use Rattle.table.proofs.list_text.Goals as goal
 use Rattle.table.proofs.list_text.Goals.{In-Input}
 

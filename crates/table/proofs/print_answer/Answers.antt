@@ -1,7 +1,7 @@
 -- `table::print_answer` is safe: the listing lies within the bytes written.
 use Rattle.std.proofs.Common.{sym}
 use lib.Seq.{length-take-le}
-use Rattle.table.specs.Laws.{listing_inside}
+use Rattle.table.proofs.Laws.{listing_inside}
 use Rattle.table.proofs.print_answer.Goals as goal
 
 pub slice_bounds-out-end : goal.slice_bounds-out-end

@@ -5,7 +5,7 @@ use mir.Facts.{to_z-of_z}
 use Rattle.diagram.specs.Walk.{walk, walked}
 use Rattle.diagram.specs.Inner.Checks.{list_checks}
 use Rattle.numbers.specs.Inner.Checks.{checked}
-use Rattle.diagram.specs.Laws.Lists.{list_passed, list_unfit}
+use Rattle.diagram.proofs.Laws.Lists.{list_passed, list_unfit}
 use Rattle.walker.proofs.walk.Goals as goal
 use Rattle.walker.proofs.walk.Goals.{After-check_list}
 

@@ -6,8 +6,8 @@ use mir.Facts.{to_z-of_z}
 use borrow.Author.Rules.{sfits_of}
 use Rattle.numbers.specs.Answers.{accepted}
 use Rattle.diagram.specs.Walk.{walk_value, walked}
-use Rattle.diagram.specs.Laws.Checks.{variables_range}
-use Rattle.diagram.specs.Laws.Lists.{walk_outside, walk_inside}
+use Rattle.diagram.proofs.Laws.Checks.{variables_range}
+use Rattle.diagram.proofs.Laws.Lists.{walk_outside, walk_inside}
 use Rattle.walker.proofs.walk_checked.Goals as goal
 
 pub power-requires : goal.power-requires

@@ -6,8 +6,8 @@ use mir.Syntax.{w32}
 use mir.Val.{of_z, to_z}
 use mir.Facts.{to_z-of_z}
 use Rattle.diagram.specs.Inner.Edges.{descend, root_of, PathReady}
-use Rattle.diagram.specs.Laws.Checks.{variables_range}
-use Rattle.diagram.specs.Laws.Edges.{descend_all, ready_root}
+use Rattle.diagram.proofs.Laws.Checks.{variables_range}
+use Rattle.diagram.proofs.Laws.Edges.{descend_all, ready_root}
 use Rattle.walker.proofs.walk_value.Goals as goal
 use Rattle.walker.proofs.walk_value.Goals.{After-root_of-root}
 

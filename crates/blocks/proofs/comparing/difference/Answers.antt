@@ -5,7 +5,7 @@ use lib.ListN.{get_or}
 use mir.Syntax.{w32, w64}
 use mir.Val.{SFits, of_z, to_z}
 use mir.Facts.{to_z-of_z}
-use Rattle.numbers.specs.Laws.Machine.{difference_fits, wider}
+use Rattle.numbers.proofs.Laws.Machine.{difference_fits, wider}
 use Rattle.blocks.proofs.comparing.difference.Goals as goal
 use Rattle.blocks.proofs.comparing.difference.Goals.{After-result-2-1}
 

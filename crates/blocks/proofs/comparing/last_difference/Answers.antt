@@ -8,7 +8,7 @@ use lib.ListN.{length, get_or, drop, length-drop}
 use lib.Seq.{take_all, get_or-drop}
 use lib.IntN.{pos, ◌-ℤ◌}
 use mir.Facts.{to_z-of_z}
-use Rattle.blocks.specs.Laws.Comparing.{last_of_values, last_of_none}
+use Rattle.blocks.proofs.Laws.Comparing.{last_of_values, last_of_none}
 use Rattle.blocks.proofs.comparing.last_difference.Goals as goal
 
 pub returns-then-values-eq0 : goal.returns-then-values-eq0

@@ -10,7 +10,7 @@ use lib.IntN.{ℤ}
 use mir.Facts.{to_z-of_z}
 use Rattle.blocks.specs.Classes.{same}
 use Rattle.blocks.specs.Inner.Layout.{less}
-use Rattle.blocks.specs.Laws.Comparing.{none_left, none_right, by_one_constant}
+use Rattle.blocks.proofs.Laws.Comparing.{none_left, none_right, by_one_constant}
 use Rattle.blocks.proofs.comparing.same_differences.Goals as goal
 
 pub returns-then-left-eq0 : goal.returns-then-left-eq0

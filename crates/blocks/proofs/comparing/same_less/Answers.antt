@@ -8,11 +8,11 @@ use lib.IntN.{ℤ, pos}
 use mir.Syntax.{w64}
 use mir.Val.{SFits, of_z, to_z}
 use mir.Facts.{to_z-of_z}
-use Rattle.numbers.specs.Laws.Integers.{sub_exchange}
-use Rattle.numbers.specs.Laws.Machine.{same_bits}
+use Rattle.numbers.proofs.Laws.Integers.{sub_exchange}
+use Rattle.numbers.proofs.Laws.Machine.{same_bits}
 use Rattle.blocks.specs.Classes.{same}
 use Rattle.blocks.specs.Inner.Layout.{less}
-use Rattle.blocks.specs.Laws.Comparing.{length_less, less_at, unlike_lengths, equal_here, unlike_here, all_equal}
+use Rattle.blocks.proofs.Laws.Comparing.{length_less, less_at, unlike_lengths, equal_here, unlike_here, all_equal}
 use Rattle.blocks.proofs.comparing.same_less.Goals as goal
 use Rattle.blocks.proofs.comparing.same_less.Goals.{After-difference}
 

@@ -9,9 +9,9 @@ use lib.Pow.{pow_pos, pow_mono}
 use mir.Facts.{to_z-of_z}
 use borrow.Author.Rules.{sfits_of}
 use Rattle.blocks.specs.Rows.{cut_place}
-use Rattle.diagram.specs.Laws.Builds.{build_short, build_done}
-use Rattle.diagram.specs.Laws.Checks.{variables_range}
-use Rattle.diagram.specs.Laws.Numbering.{records_room}
+use Rattle.diagram.proofs.Laws.Builds.{build_short, build_done}
+use Rattle.diagram.proofs.Laws.Checks.{variables_range}
+use Rattle.diagram.proofs.Laws.Numbering.{records_room}
 use Rattle.builder.proofs.building.build_checked.Goals as goal
 use Rattle.builder.proofs.building.build_checked.Goals.{After-power-size, Start}
 

@@ -4,8 +4,8 @@ use mathlib.Core.Path.{sym, ◌∙◌}
 use lib.ListN.{length}
 use lib.Seq.{length-take-le}
 use Rattle.numbers.specs.Ranges.{most_variables}
-use Rattle.blocks.specs.Laws.Cuts.{places_most}
-use Rattle.diagram.specs.Laws.Checks.{variables_range}
+use Rattle.blocks.proofs.Laws.Cuts.{places_most}
+use Rattle.diagram.proofs.Laws.Checks.{variables_range}
 use Rattle.builder.proofs.building.record_table.Goals as goal
 use Rattle.builder.proofs.building.record_table.Goals.{Start}
 

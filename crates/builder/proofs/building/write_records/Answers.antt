@@ -3,7 +3,7 @@ use Prim.Native.Nat.{◌<◌}
 use mathlib.Core.Path.{refl, sym, ◌∙◌}
 use native.Mathlib.Omega.{arith}
 use lib.ListN.{length, replicate, get_or-replicate}
-use Rattle.diagram.specs.Laws.AllRecords.{records_start, buffer_kept, cuts_counted, cut_ready, records_next, records_done}
+use Rattle.diagram.proofs.Laws.AllRecords.{records_start, buffer_kept, cuts_counted, cut_ready, records_next, records_done}
 use Rattle.builder.proofs.building.write_records.Goals as goal
 use Rattle.builder.proofs.building.write_records.Goals.{In-loop-i}
 

@@ -1,7 +1,7 @@
 use Prim.Native.Nat.{◌-◌}
 use mathlib.Core.Path.{◌≡◌}
 use lib.ListN.{length}
-use Rattle.diagram.specs.Laws.AllRecords.{RecordsSoFar}
+use Rattle.diagram.proofs.Laws.AllRecords.{RecordsSoFar}
 use Rattle.builder.proofs.building.write_records.Given as goal
 
 abbrev pub invariant-loop-i : goal.invariant-loop-i

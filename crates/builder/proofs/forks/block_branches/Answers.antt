@@ -8,8 +8,8 @@ use lib.ListN.{length, take, drop}
 use mir.Facts.{Fits-of_lt}
 use Rattle.blocks.specs.Blocks.{block}
 use Rattle.blocks.specs.Classes.{same}
-use Rattle.blocks.specs.Laws.Blocks.{block_length, block_part}
-use Rattle.diagram.specs.Laws.Branching.{branches_by_halves}
+use Rattle.blocks.proofs.Laws.Blocks.{block_length, block_part}
+use Rattle.diagram.proofs.Laws.Branching.{branches_by_halves}
 use Rattle.builder.proofs.forks.block_branches.Goals as goal
 use Rattle.builder.proofs.forks.block_branches.Goals.{After-power-size}
 

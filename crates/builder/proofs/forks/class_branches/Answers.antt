@@ -5,7 +5,7 @@ use native.Mathlib.Numerals.{add-one}
 use native.Mathlib.Omega.{arith}
 use Rattle.blocks.specs.Blocks.{block}
 use Rattle.diagram.specs.Records.{branches}
-use Rattle.diagram.specs.Laws.FirstBlocks.{cut_small, half_small, first_place, first_within, first_branches}
+use Rattle.diagram.proofs.Laws.FirstBlocks.{cut_small, half_small, first_place, first_within, first_branches}
 use Rattle.builder.proofs.forks.class_branches.Goals as goal
 
 pub in_cut-j-requires : goal.in_cut-j-requires

@@ -11,8 +11,8 @@ use mir.Facts.{to_z-of_z}
 use borrow.Author.Rules.{sfits_of}
 use Rattle.blocks.specs.Blocks.{block, first}
 use Rattle.blocks.specs.Rows.{cut_place}
-use Rattle.diagram.specs.Laws.Forks.{low_class, high_class, cut_fits, first_small, low_class_place, high_class_place, low_node_place, high_node_place, half_fits, weight_place, fork_read, fork_is}
-use Rattle.diagram.specs.Laws.FirstBlocks.{first_of, first_place}
+use Rattle.diagram.proofs.Laws.Forks.{low_class, high_class, cut_fits, first_small, low_class_place, high_class_place, low_node_place, high_node_place, half_fits, weight_place, fork_read, fork_is}
+use Rattle.diagram.proofs.Laws.FirstBlocks.{first_of, first_place}
 use Rattle.builder.proofs.forks.fork_at.Goals as goal
 use Rattle.builder.proofs.forks.fork_at.Goals.{After-class_branches}
 

@@ -9,7 +9,7 @@ use mir.Val.{SFits, of_z, to_z}
 use mir.Facts.{to_z-of_z}
 use borrow.Author.Rules.{sfits_of}
 use Rattle.blocks.specs.Blocks.{block, first}
-use Rattle.diagram.specs.Laws.Forks.{doubled_inside, lower_inside, weight_fits}
+use Rattle.diagram.proofs.Laws.Forks.{doubled_inside, lower_inside, weight_fits}
 use Rattle.builder.proofs.forks.weight_of_block.Goals as goal
 use Rattle.builder.proofs.forks.weight_of_block.Goals.{After-first_of_block-2, Start}
 

@@ -7,10 +7,10 @@ use lib.Pow.{pow_pos}
 use mir.Facts.{Fits-of_lt}
 use Rattle.blocks.specs.Blocks.{block}
 use Rattle.blocks.specs.Inner.Layout.{class_at}
-use Rattle.blocks.specs.Laws.Blocks.{block_length, block_part}
+use Rattle.blocks.proofs.Laws.Blocks.{block_length, block_part}
 use Rattle.diagram.specs.Inner.Building.{range_of}
-use Rattle.diagram.specs.Laws.FirstBlocks.{cut_small, half_small, whole, first_place, first_of, first_within, first_alike}
-use Rattle.builder.specs.Laws.Gathering.{same_range, block_values}
+use Rattle.diagram.proofs.Laws.FirstBlocks.{cut_small, half_small, whole, first_place, first_of, first_within, first_alike}
+use Rattle.builder.proofs.Laws.Gathering.{same_range, block_values}
 use Rattle.builder.proofs.ranges.class_range.Goals as goal
 use Rattle.builder.proofs.ranges.class_range.Goals.{After-in_cut}
 

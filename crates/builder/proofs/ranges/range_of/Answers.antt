@@ -11,11 +11,11 @@ use mir.Facts.{to_z-of_z, Fits-of_lt}
 use borrow.Author.Rules.{sfits_of, scaled_Fits}
 use Rattle.numbers.specs.Extremes.{least_of, greatest_of}
 use Rattle.numbers.specs.Ranges.{lesser, greater}
-use Rattle.numbers.specs.Laws.Extremal.{leasts, greatests}
+use Rattle.numbers.proofs.Laws.Extremal.{leasts, greatests}
 use Rattle.blocks.specs.Blocks.{first, differences}
-use Rattle.blocks.specs.Laws.Differences.{length_differences}
+use Rattle.blocks.proofs.Laws.Differences.{length_differences}
 use Rattle.diagram.specs.Inner.Building.{range_of}
-use Rattle.builder.specs.Laws.Gathering.{extreme_first, extreme_next, difference_fits}
+use Rattle.builder.proofs.Laws.Gathering.{extreme_first, extreme_next, difference_fits}
 use Rattle.builder.proofs.ranges.range_of.Goals as goal
 use Rattle.builder.proofs.ranges.range_of.Goals.{After-difference-1}
 

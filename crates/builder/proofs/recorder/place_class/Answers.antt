@@ -15,7 +15,7 @@ use Rattle.blocks.specs.Inner.Layout.{class_at}
 use Rattle.diagram.specs.Records.{branches, record_of, record_numbers, record_size}
 use Rattle.diagram.specs.Inner.Building.{fork_of}
 use Rattle.diagram.specs.declared.Fork.{Fork}
-use Rattle.diagram.specs.Laws.Forks.{cut_fits, class_row_place, fork_record, fork_small, fork_weight_fits}
+use Rattle.diagram.proofs.Laws.Forks.{cut_fits, class_row_place, fork_record, fork_small, fork_weight_fits}
 use Rattle.builder.proofs.recorder.place_class.Goals as goal
 use Rattle.builder.proofs.recorder.place_class.Goals.{After-fork_at-fork, After-struct_told-3-1, Else-not-fork, Then-not-fork}
 

@@ -2,7 +2,7 @@
 use Prim.Native.Nat.{◌<◌}
 use native.Mathlib.Omega.{arith}
 use Rattle.blocks.specs.Classes.{class_count}
-use Rattle.diagram.specs.Laws.CutRecords.{cut_start, row_length, nodes_kept, cut_forking, cut_record_room, cut_next, cut_done}
+use Rattle.diagram.proofs.Laws.CutRecords.{cut_start, row_length, nodes_kept, cut_forking, cut_record_room, cut_next, cut_done}
 use Rattle.builder.proofs.recorder.place_cut.Goals as goal
 use Rattle.builder.proofs.recorder.place_cut.Goals.{In-loop-c}
 

@@ -1,5 +1,5 @@
 use Prim.Native.Nat.{◌-◌}
-use Rattle.diagram.specs.Laws.CutRecords.{CutSoFar}
+use Rattle.diagram.proofs.Laws.CutRecords.{CutSoFar}
 use Rattle.builder.proofs.recorder.place_cut.Given as goal
 
 abbrev pub invariant-loop-c : goal.invariant-loop-c

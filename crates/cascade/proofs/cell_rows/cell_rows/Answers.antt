@@ -6,7 +6,7 @@ use native.Mathlib.Omega.{arith}
 use lib.ListN.{length, replicate}
 use mir.Facts.{Fits-of_lt}
 use Rattle.cascade.specs.Plan.{no_cell}
-use Rattle.cascade.specs.Laws.Rows.{no_rows, row_more, all_rows}
+use Rattle.cascade.proofs.Laws.Rows.{no_rows, row_more, all_rows}
 use Rattle.cascade.proofs.cell_rows.cell_rows.Goals as goal
 use Rattle.cascade.proofs.cell_rows.cell_rows.Goals.{Start}
 

@@ -1,5 +1,5 @@
 use Prim.Native.Nat.{◌-◌}
-use Rattle.cascade.specs.Laws.Rows.{RowsTo}
+use Rattle.cascade.proofs.Laws.Rows.{RowsTo}
 use Rattle.cascade.proofs.cell_rows.cell_rows.Given as goal
 
 abbrev pub invariant-loop-k : goal.invariant-loop-k

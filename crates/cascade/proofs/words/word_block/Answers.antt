@@ -3,7 +3,7 @@ use Prim.Native.Nat.{◌+◌, ◌*◌, ◌%◌, ◌^◌}
 use mathlib.Core.Path.{◌≡◌}
 use native.Mathlib.Omega.{arith}
 use lib.Pow.{pow_pos}
-use Rattle.numbers.specs.Laws.Pieces.{shifted_one}
+use Rattle.numbers.proofs.Laws.Pieces.{shifted_one}
 use Rattle.cascade.specs.Inner.Words.{word_block}
 use Rattle.cascade.proofs.words.word_block.Goals as goal
 use Rattle.cascade.proofs.words.word_block.Goals.{After-in_cut, Start}

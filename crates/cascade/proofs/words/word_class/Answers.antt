@@ -3,7 +3,7 @@ use Prim.Native.Nat.{◌+◌}
 use mathlib.Core.Path.{◌∙◌, ap₂}
 use lib.ListN.{get_or}
 use Rattle.blocks.specs.Rows.{cut_place}
-use Rattle.cascade.specs.Laws.WordReading.{block_ready, end_small, class_read, class_place}
+use Rattle.cascade.proofs.Laws.WordReading.{block_ready, end_small, class_read, class_place}
 use Rattle.cascade.proofs.words.word_class.Goals as goal
 
 pub word_block-requires : goal.word_block-requires

@@ -7,10 +7,10 @@ use mir.Syntax.{w32}
 use mir.Val.{of_z, to_z}
 use mir.Facts.{to_z-of_z}
 use borrow.Author.Rules.{sfits_of}
-use Rattle.numbers.specs.Laws.Pieces.{shifted_one}
+use Rattle.numbers.proofs.Laws.Pieces.{shifted_one}
 use Rattle.blocks.specs.Blocks.{block, first}
 use Rattle.cascade.specs.Inner.Words.{cell_word}
-use Rattle.cascade.specs.Laws.WordReading.{group_small, block_ready, height_small, lower_small, outer, block_outer, block_inside, outer_inside, weight_read, weight_fits}
+use Rattle.cascade.proofs.Laws.WordReading.{group_small, block_ready, height_small, lower_small, outer, block_outer, block_inside, outer_inside, weight_read, weight_fits}
 use Rattle.cascade.proofs.words.word_weight.Goals as goal
 use Rattle.cascade.proofs.words.word_weight.Goals.{After-first_of_block-2, After-word_block-block, Start}
 

@@ -4,9 +4,9 @@ use mathlib.Core.List.{flat_map}
 use Rattle.cascade.specs.Compile.{outcome}
 use Rattle.cascade.specs.Rows.{cell_row}
 use Rattle.cases.specs.Rows.{byte_lent, front_holds, sizes_are}
-use Rattle.cases.specs.Laws.Tests.{passed, failed, lent_front, front_within, front_length}
+use Rattle.cases.proofs.Laws.Tests.{passed, failed, lent_front, front_within, front_length}
 use Rattle.cases.specs.CascadeCases.{outcome_is, compile_passes}
-use Rattle.cases.specs.Laws.CascadeCases.{compile_too_many, compile_judged}
+use Rattle.cases.proofs.Laws.CascadeCases.{compile_too_many, compile_judged}
 use Rattle.cases.proofs.cascades.compile.Goals as goal
 use Rattle.cases.proofs.cascades.compile.Goals.{After-cell_rows-row, After-compile-compiled}
 

@@ -2,7 +2,7 @@
 use Rattle.std.proofs.Common.{◌≡◌, ◌&&◌, eqb, List, ℤ, sym, ap, ◌∙◌, rules, ne_eqb}
 use Rattle.cascade.specs.Compile.{outcome}
 use Rattle.cases.specs.Rows.{size_at, answer_is}
-use Rattle.cases.specs.Laws.Tests.{passed, failed, is_size, not_size}
+use Rattle.cases.proofs.Laws.Tests.{passed, failed, is_size, not_size}
 use Rattle.cases.specs.CascadeCases.{outcome_is}
 use Rattle.cases.proofs.cascades.outcome_is.Goals as goal
 use Rattle.cases.proofs.cascades.outcome_is.Goals.{Then-refusal-eq0}

@@ -4,9 +4,9 @@ use mathlib.Core.List.{flat_map}
 use Rattle.cascade.specs.Plan.{judgement}
 use Rattle.cascade.specs.Rows.{cell_row}
 use Rattle.cases.specs.Rows.{sizes_are}
-use Rattle.cases.specs.Laws.Tests.{passed, failed}
+use Rattle.cases.proofs.Laws.Tests.{passed, failed}
 use Rattle.cases.specs.CascadeCases.{verdict_is, plan_passes}
-use Rattle.cases.specs.Laws.CascadeCases.{plan_judged}
+use Rattle.cases.proofs.Laws.CascadeCases.{plan_judged}
 use Rattle.cases.proofs.cascades.plan.Goals as goal
 use Rattle.cases.proofs.cascades.plan.Goals.{After-plan-planned}
 

@@ -1,5 +1,5 @@
 use Rattle.std.proofs.Common.{◌-◌, length}
-use Rattle.cases.specs.Laws.Text.{LinePassed}
+use Rattle.cases.proofs.Laws.Text.{LinePassed}
 use Rattle.cases.proofs.case_lines.behind_line.Given as goal
 
 abbrev pub invariant-loop-at : goal.invariant-loop-at

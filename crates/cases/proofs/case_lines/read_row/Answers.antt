@@ -2,10 +2,10 @@
 --
 use Rattle.std.proofs.Common.{◌≡◌, ℕ, ◌-◌, List, length, sym, ◌∙◌, subst, le_refl, arith, w32, to_z, of_z, rules}
 use Rattle.decimal.specs.declared.Item.{Item}
-use Rattle.decimal.specs.Laws.Items.{Seen, item_seen}
-use Rattle.decimal.specs.Laws.Positions.{start_place}
-use Rattle.decimal.specs.Laws.Values.{ValuesSoFar, no_values, values_kept, next_value}
-use Rattle.cases.specs.Laws.Text.{row_full, nothing_next}
+use Rattle.decimal.proofs.Laws.Items.{Seen, item_seen}
+use Rattle.decimal.proofs.Laws.Positions.{start_place}
+use Rattle.decimal.proofs.Laws.Values.{ValuesSoFar, no_values, values_kept, next_value}
+use Rattle.cases.proofs.Laws.Text.{row_full, nothing_next}
 use Rattle.cases.proofs.case_lines.read_row.Goals as goal
 use Rattle.cases.proofs.case_lines.read_row.Goals.{After-next_item, At-loop-count, In-Valued}
 

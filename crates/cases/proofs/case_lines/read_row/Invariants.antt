@@ -1,5 +1,5 @@
 use Rattle.std.proofs.Common.{◌-◌, length}
-use Rattle.decimal.specs.Laws.Values.{ValuesSoFar}
+use Rattle.decimal.proofs.Laws.Values.{ValuesSoFar}
 use Rattle.cases.proofs.case_lines.read_row.Given as goal
 
 abbrev pub invariant-loop-count : goal.invariant-loop-count

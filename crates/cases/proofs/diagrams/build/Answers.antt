@@ -2,9 +2,9 @@
 use Rattle.std.proofs.Common.{◌≡◌, ◌≤◌, ◌&&◌, List, length, take, replicate, ℤ, sym, refl, ap, ◌∙◌, length-take-le, take_at, rules}
 use Rattle.diagram.specs.Build.{built}
 use Rattle.cases.specs.Rows.{number_lent, front_holds}
-use Rattle.cases.specs.Laws.Tests.{passed, failed, lent_front, front_within, front_length}
+use Rattle.cases.proofs.Laws.Tests.{passed, failed, lent_front, front_within, front_length}
 use Rattle.cases.specs.DiagramCases.{built_is, build_passes}
-use Rattle.cases.specs.Laws.DiagramCases.{build_too_many, build_judged}
+use Rattle.cases.proofs.Laws.DiagramCases.{build_too_many, build_judged}
 use Rattle.cases.proofs.diagrams.build.Goals as goal
 use Rattle.cases.proofs.diagrams.build.Goals.{After-build-answer}
 

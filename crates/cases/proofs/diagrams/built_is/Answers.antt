@@ -4,7 +4,7 @@ use Rattle.std.proofs.Common.{eqb, get_or, pos, sym, ap, ◌∙◌, to_z-of_z, r
 use Rattle.numbers.specs.Ranges.{eq_z}
 use Rattle.diagram.specs.Build.{built}
 use Rattle.cases.specs.Rows.{answer_is}
-use Rattle.cases.specs.Laws.Tests.{passed, failed, is_size, not_size}
+use Rattle.cases.proofs.Laws.Tests.{passed, failed, is_size, not_size}
 use Rattle.cases.specs.DiagramCases.{built_is}
 use Rattle.cases.proofs.diagrams.built_is.Goals as goal
 

@@ -5,7 +5,7 @@ use Rattle.numbers.specs.Ranges.{eq_z}
 use Rattle.diagram.specs.Walk.{walk, walked}
 use Rattle.diagram.specs.declared.Walked.{Walked}
 use Rattle.cases.specs.Rows.{size_at, answer_is}
-use Rattle.cases.specs.Laws.Tests.{passed, failed, is_size, not_size}
+use Rattle.cases.proofs.Laws.Tests.{passed, failed, is_size, not_size}
 use Rattle.cases.specs.DiagramCases.{walk_passes}
 use Rattle.cases.proofs.diagrams.walk.Goals as goal
 use Rattle.cases.proofs.diagrams.walk.Goals.{After-walk}

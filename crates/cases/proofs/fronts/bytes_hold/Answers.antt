@@ -2,9 +2,9 @@
 use Rattle.std.proofs.Common.{◌≡◌, ◌-◌, ◌<◌, List, map, length, get_or, ℤ, pos, sym, ap, ◌∙◌, arith, to_z-of_z, w32, SFits, rules}
 use lib.ListN.{length-map}
 use Rattle.numbers.specs.Ranges.{eq_z}
-use Rattle.numbers.specs.Laws.Lists.{get_d_map}
+use Rattle.numbers.proofs.Laws.Lists.{get_d_map}
 use Rattle.cases.specs.Rows.{byte_lent}
-use Rattle.cases.specs.Laws.Rows.{HoldsTo, holds_start, holds_on, holds_not, holds_all}
+use Rattle.cases.proofs.Laws.Rows.{HoldsTo, holds_start, holds_on, holds_not, holds_all}
 use Rattle.cases.proofs.fronts.bytes_hold.Goals as goal
 use Rattle.cases.proofs.fronts.bytes_hold.Goals.{After-is_at, After-shared_slice_known-in-loop-i-1}
 

@@ -3,7 +3,7 @@ use mir.Syntax.{w32}
 use Rattle.std.proofs.Common.{◌≡◌, ◌-◌, length, get_or, pos, sym, ap, ◌∙◌, to_z-of_z, rules}
 use Rattle.numbers.specs.Ranges.{eq_z}
 use Rattle.cases.specs.Rows.{number_lent}
-use Rattle.cases.specs.Laws.Rows.{HoldsTo, holds_start, holds_on, holds_not, holds_all, inside_row}
+use Rattle.cases.proofs.Laws.Rows.{HoldsTo, holds_start, holds_on, holds_not, holds_all, inside_row}
 use Rattle.cases.proofs.fronts.numbers_hold.Goals as goal
 use Rattle.cases.proofs.fronts.numbers_hold.Goals.{After-is_at}
 

@@ -1,6 +1,6 @@
 use Rattle.std.proofs.Common.{◌-◌, length}
 use Rattle.cases.specs.Rows.{number_lent}
-use Rattle.cases.specs.Laws.Rows.{HoldsTo}
+use Rattle.cases.proofs.Laws.Rows.{HoldsTo}
 use Rattle.cases.proofs.fronts.numbers_hold.Given as goal
 
 abbrev pub invariant-loop-i : goal.invariant-loop-i

@@ -2,7 +2,7 @@
 use Rattle.std.proofs.Common.{◌≡◌, ◌-◌, ◌%◌, length, get_or, pos, ap, ◌∙◌, arith, to_z-of_z, w32, SFits, rules}
 use lib.Signed.{mag}
 use Rattle.cases.specs.Rows.{byte_of}
-use Rattle.cases.specs.Laws.Rows.{BytesTo, no_bytes, bytes_kept, one_byte, all_bytes}
+use Rattle.cases.proofs.Laws.Rows.{BytesTo, no_bytes, bytes_kept, one_byte, all_bytes}
 use Rattle.cases.proofs.fronts.put_bytes.Goals as goal
 use Rattle.cases.proofs.fronts.put_bytes.Goals.{After-unsigned_part, At-loop-i}
 

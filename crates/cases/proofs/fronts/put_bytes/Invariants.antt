@@ -1,5 +1,5 @@
 use Rattle.std.proofs.Common.{◌-◌, length}
-use Rattle.cases.specs.Laws.Rows.{BytesTo}
+use Rattle.cases.proofs.Laws.Rows.{BytesTo}
 use Rattle.cases.proofs.fronts.put_bytes.Given as goal
 
 abbrev pub invariant-loop-i : goal.invariant-loop-i

@@ -4,7 +4,7 @@ use lib.ListN.{length-map, get_or-map}
 use lib.Signed.{mag}
 use Rattle.numbers.specs.Ranges.{eq_z}
 use Rattle.cases.specs.Rows.{size_at, sizes_are}
-use Rattle.cases.specs.Laws.Rows.{HoldsTo, holds_start, holds_on, holds_not, holds_all}
+use Rattle.cases.proofs.Laws.Rows.{HoldsTo, holds_start, holds_on, holds_not, holds_all}
 use Rattle.cases.proofs.fronts.sizes_are.Goals as goal
 use Rattle.cases.proofs.fronts.sizes_are.Goals.{After-size_at}
 

@@ -1,6 +1,6 @@
 use Rattle.std.proofs.Common.{◌-◌, map, length, pos}
 use lib.Signed.{mag}
-use Rattle.cases.specs.Laws.Rows.{HoldsTo}
+use Rattle.cases.proofs.Laws.Rows.{HoldsTo}
 use Rattle.cases.proofs.fronts.sizes_are.Given as goal
 
 abbrev pub invariant-loop-i : goal.invariant-loop-i

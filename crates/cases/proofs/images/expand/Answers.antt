@@ -3,10 +3,10 @@ use Rattle.std.proofs.Common.{◌≡◌, ◌≤◌, ◌&&◌, List, map, length,
 use lib.ListN.{length-map}
 use Rattle.image.specs.Run.{expanded}
 use Rattle.cases.specs.Rows.{byte_of, number_lent, front_holds}
-use Rattle.cases.specs.Laws.Rows.{bytes_front}
-use Rattle.cases.specs.Laws.Tests.{passed, failed, lent_front, front_within, front_length}
+use Rattle.cases.proofs.Laws.Rows.{bytes_front}
+use Rattle.cases.proofs.Laws.Tests.{passed, failed, lent_front, front_within, front_length}
 use Rattle.cases.specs.ImageCases.{expanded_is, expand_passes}
-use Rattle.cases.specs.Laws.ImageCases.{expand_too_long, expand_too_many, expand_judged}
+use Rattle.cases.proofs.Laws.ImageCases.{expand_too_long, expand_too_many, expand_judged}
 use Rattle.cases.proofs.images.expand.Goals as goal
 use Rattle.cases.proofs.images.expand.Goals.{After-bytes-3-1, After-expand-answer}
 

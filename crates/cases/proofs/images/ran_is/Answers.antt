@@ -1,10 +1,10 @@
 -- `case_images::ran_is` meets its contract.
 use Rattle.std.proofs.Common.{◌≡◌, Bool, ◌&&◌, eqb, sym, ap, ◌∙◌, w32, rules, eq-eqb, ne_eqb}
 use Rattle.numbers.specs.Ranges.{eq_z}
-use Rattle.numbers.specs.Laws.Machine.{bits_equal}
+use Rattle.numbers.proofs.Laws.Machine.{bits_equal}
 use Rattle.image.specs.Run.{ran}
 use Rattle.cases.specs.Rows.{answer_is}
-use Rattle.cases.specs.Laws.Tests.{passed, failed}
+use Rattle.cases.proofs.Laws.Tests.{passed, failed}
 use Rattle.cases.specs.ImageCases.{ran_is}
 use Rattle.cases.proofs.images.ran_is.Goals as goal
 use Rattle.cases.proofs.images.ran_is.Goals.{In-Value}

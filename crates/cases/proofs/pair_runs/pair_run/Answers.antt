@@ -3,8 +3,8 @@ use mir.Syntax.{w32}
 use Rattle.std.proofs.Common.{◌≡◌, List, map, length, take, ℤ, sym, ap, ◌∙◌, to_z-of_z, rules}
 use lib.ListN.{length-map}
 use Rattle.cases.specs.Rows.{byte_of}
-use Rattle.cases.specs.Laws.Rows.{bytes_front}
-use Rattle.cases.specs.Laws.PairCases.{pair_run_too_long, pair_run_judged}
+use Rattle.cases.proofs.Laws.Rows.{bytes_front}
+use Rattle.cases.proofs.Laws.PairCases.{pair_run_too_long, pair_run_judged}
 use Rattle.cases.proofs.pair_runs.pair_run.Goals as goal
 use Rattle.cases.proofs.pair_runs.pair_run.Goals.{After-bytes-3-1}
 

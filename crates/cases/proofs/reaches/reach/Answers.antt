@@ -2,9 +2,9 @@
 use Rattle.std.proofs.Common.{◌≡◌, ◌&&◌, List, ℤ, sym, ◌∙◌, rules}
 use Rattle.reach.specs.Reach.{reach_judgement}
 use Rattle.cases.specs.Rows.{sizes_are}
-use Rattle.cases.specs.Laws.Tests.{passed, failed}
+use Rattle.cases.proofs.Laws.Tests.{passed, failed}
 use Rattle.cases.specs.ReachCases.{verdict_is, reach_passes}
-use Rattle.cases.specs.Laws.ReachCases.{reach_judged}
+use Rattle.cases.proofs.Laws.ReachCases.{reach_judged}
 use Rattle.cases.proofs.reaches.reach.Goals as goal
 use Rattle.cases.proofs.reaches.reach.Goals.{After-reach-reached}
 

@@ -5,9 +5,9 @@ use borrow.Author.Rules.{sfits_of}
 use Rattle.numbers.specs.Ranges.{eq_z}
 use Rattle.report.specs.Report.{Figures, reported}
 use Rattle.cases.specs.Rows.{size_at, answer_is}
-use Rattle.cases.specs.Laws.Tests.{passed, failed, is_size, not_size}
+use Rattle.cases.proofs.Laws.Tests.{passed, failed, is_size, not_size}
 use Rattle.cases.specs.ReportCases.{sum_of, figures_are, reported_is}
-use Rattle.numbers.specs.Laws.Machine.{bits_equal}
+use Rattle.numbers.proofs.Laws.Machine.{bits_equal}
 use Rattle.cases.proofs.reports.reported_is.Goals as goal
 use Rattle.cases.proofs.reports.reported_is.Goals.{After-is_at, After-is_at-then-is_at, In-Report, Then-refusal-eq0}
 

@@ -1,9 +1,9 @@
 -- `case_reports::sum_of` meets its contract: both numbers, the product and the sum fit 64 bits.
 use Rattle.std.proofs.Common.{◌≡◌, ℤ, pos, ◌+ℤ◌, ◌*ℤ◌, ap, ◌∙◌, ap₂, to_z-of_z, w32, w64, SFits, to_z, of_z, rules}
 use borrow.Author.Rules.{sfits_of}
-use Rattle.numbers.specs.Laws.Machine.{wider}
+use Rattle.numbers.proofs.Laws.Machine.{wider}
 use Rattle.cases.specs.ReportCases.{sum_of}
-use Rattle.cases.specs.Laws.ReportCases.{product_fits, sum_fits}
+use Rattle.cases.proofs.Laws.ReportCases.{product_fits, sum_fits}
 use Rattle.cases.proofs.reports.sum_of.Goals as goal
 use Rattle.cases.proofs.reports.sum_of.Goals.{After-number_at-low}
 

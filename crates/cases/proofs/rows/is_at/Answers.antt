@@ -1,7 +1,7 @@
 -- `case_rows::is_at` meets its contract: equal bits are equal numbers.
 use Rattle.std.proofs.Common.{get_or, ap, ◌∙◌, to_z-of_z, w32, rules}
 use Rattle.numbers.specs.Ranges.{eq_z}
-use Rattle.numbers.specs.Laws.Machine.{bits_equal}
+use Rattle.numbers.proofs.Laws.Machine.{bits_equal}
 use Rattle.cases.proofs.rows.is_at.Goals as goal
 
 pub returns : goal.returns

@@ -2,7 +2,7 @@
 use mir.Syntax.{w32}
 use Rattle.std.proofs.Common.{pos, sym, ◌∙◌, to_z-of_z, rules}
 use lib.ListN.{get_or-eq_default}
-use Rattle.cases.specs.Laws.Rows.{inside_row}
+use Rattle.cases.proofs.Laws.Rows.{inside_row}
 use Rattle.cases.proofs.rows.number_at.Goals as goal
 
 pub returns-then-at-row : goal.returns-then-at-row

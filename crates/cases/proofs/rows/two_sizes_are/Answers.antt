@@ -1,7 +1,7 @@
 -- `case_rows::two_sizes_are` meets its contract, number by number.
 use Rattle.std.proofs.Common.{eqb, sym, ap, ◌∙◌, rules, ne_eqb}
 use Rattle.cases.specs.Rows.{two_sizes_are}
-use Rattle.cases.specs.Laws.Tests.{passed, failed, is_size, not_size}
+use Rattle.cases.proofs.Laws.Tests.{passed, failed, is_size, not_size}
 use Rattle.cases.proofs.rows.two_sizes_are.Goals as goal
 
 pub returns-else-size_at-eq0 : goal.returns-else-size_at-eq0

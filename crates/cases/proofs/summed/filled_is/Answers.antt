@@ -2,7 +2,7 @@
 use Rattle.std.proofs.Common.{◌≡◌, true, eqb, sym, ap, ◌∙◌, ⊎_elim, rules, ne_eqb}
 use Rattle.sums.specs.Sums.{summed}
 use Rattle.cases.specs.Rows.{answer_is}
-use Rattle.cases.specs.Laws.SumCases.{table_told, refusal_told, other_told, same_told}
+use Rattle.cases.proofs.Laws.SumCases.{table_told, refusal_told, other_told, same_told}
 use Rattle.cases.proofs.summed.filled_is.Goals as goal
 use Rattle.cases.proofs.summed.filled_is.Goals.{Joined-answer}
 

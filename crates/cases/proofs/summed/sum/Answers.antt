@@ -2,9 +2,9 @@
 use Rattle.std.proofs.Common.{◌≡◌, ◌≤◌, List, length, take, replicate, ℤ, sym, ap, ◌∙◌, length-take-le, take_at, rules}
 use Rattle.sums.specs.Sums.{plain_sum, summed}
 use Rattle.cases.specs.Rows.{size_at, number_lent}
-use Rattle.cases.specs.Laws.Tests.{lent_front, front_within, front_length}
+use Rattle.cases.proofs.Laws.Tests.{lent_front, front_within, front_length}
 use Rattle.cases.specs.SumCases.{filled_is, table_passes, sum_passes}
-use Rattle.cases.specs.Laws.SumCases.{too_many, judged}
+use Rattle.cases.proofs.Laws.SumCases.{too_many, judged}
 use Rattle.cases.proofs.summed.sum.Goals as goal
 use Rattle.cases.proofs.summed.sum.Goals.{After-sum-answer}
 

@@ -2,7 +2,7 @@
 use mathlib.Core.Path.{sym, ◌∙◌}
 use native.Mathlib.Omega.{arith}
 use borrow.Author.Rules.{rules}
-use Rattle.checks.specs.Laws.Cases.{other_length, rows_judged}
+use Rattle.checks.proofs.Laws.Cases.{other_length, rows_judged}
 use Rattle.checks.proofs.judging.judge.Goals as goal
 
 pub overflow_add-first : goal.overflow_add-first

@@ -4,7 +4,7 @@ use mathlib.Core.List.{List}
 use native.Mathlib.Omega.{arith}
 use lib.ListN.{length}
 use borrow.Author.Rules.{rules}
-use Rattle.cases.specs.Laws.Text.{behind_within, behind_further}
+use Rattle.cases.proofs.Laws.Text.{behind_within, behind_further}
 use Rattle.checks.proofs.judging.judge_all.Goals as goal
 use Rattle.checks.proofs.judging.judge_all.Goals.{After-behind_line-next, After-behind_line-numbers}
 

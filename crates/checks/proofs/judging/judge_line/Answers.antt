@@ -7,7 +7,7 @@ use lib.Seq.{length-take-le}
 use lib.IntN.{pos}
 use borrow.Author.Rules.{rules}
 use Rattle.cases.specs.Text.{line_numbers}
-use Rattle.cases.specs.Laws.Text.{count_within, row_taken}
+use Rattle.cases.proofs.Laws.Text.{count_within, row_taken}
 use Rattle.checks.specs.Cases.{case_passes, line_passes}
 use Rattle.checks.proofs.judging.judge_line.Goals as goal
 use Rattle.checks.proofs.judging.judge_line.Goals.{After-read_row-count}

@@ -4,7 +4,7 @@ use mathlib.Core.Bool.{false}
 use lib.ListN.{get_or}
 use borrow.Author.Rules.{rules}
 use Rattle.checks.specs.Cases.{operations_pass, rows_pass}
-use Rattle.checks.specs.Laws.Cases.{own_operation, other_operation}
+use Rattle.checks.proofs.Laws.Cases.{own_operation, other_operation}
 use Rattle.checks.proofs.judging.judge_rows.Goals as goal
 
 pub returns-in-1 : goal.returns-in-1

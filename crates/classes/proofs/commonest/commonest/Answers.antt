@@ -7,7 +7,7 @@ use native.Mathlib.Omega.{arith}
 use lib.ListN.{length, get_or, take}
 use lib.Seq.{take-suc, take-length, length-take-le}
 use Rattle.blocks.specs.declared.Common.{Common}
-use Rattle.blocks.specs.Laws.Commonest.{Leading, leading_is, none_leads, greater_leads, other_stays}
+use Rattle.blocks.proofs.Laws.Commonest.{Leading, leading_is, none_leads, greater_leads, other_stays}
 use borrow.Author.Rules.{rules}
 use Rattle.classes.proofs.commonest.commonest.Goals as goal
 use Rattle.classes.proofs.commonest.commonest.Goals.{then-uses-use_counts, else-uses-use_counts, In-loop-k}

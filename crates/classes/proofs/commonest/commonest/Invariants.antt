@@ -1,6 +1,6 @@
 use Prim.Native.Nat.{◌-◌, ◌≤◌}
 use lib.ListN.{length, take}
-use Rattle.blocks.specs.Laws.Commonest.{Leading}
+use Rattle.blocks.proofs.Laws.Commonest.{Leading}
 use Rattle.classes.proofs.commonest.commonest.Given as goal
 
 abbrev pub invariant-loop-k : goal.invariant-loop-k

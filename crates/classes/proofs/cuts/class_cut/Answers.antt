@@ -6,7 +6,7 @@ use lib.ListN.{length, set}
 use lib.Seq.{length-take-le}
 use borrow.Author.Rules.{rules}
 use Rattle.classes.specs.Inner.Noting.{cut_rows, found_noted}
-use Rattle.classes.specs.Laws.Cut.{CutSoFar, cut_start, rows_few, blocks_before, class_few, cut_next, cut_done}
+use Rattle.classes.proofs.Laws.Cut.{CutSoFar, cut_start, rows_few, blocks_before, class_few, cut_next, cut_done}
 use Rattle.classes.proofs.cuts.class_cut.Goals as goal
 use Rattle.classes.proofs.cuts.class_cut.Goals.{In-loop-j}
 

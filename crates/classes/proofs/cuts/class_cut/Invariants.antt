@@ -1,7 +1,7 @@
 use Prim.Native.Nat.{◌-◌}
 use lib.ListN.{length}
 use Rattle.classes.specs.Inner.Noting.{cut_rows}
-use Rattle.classes.specs.Laws.Cut.{CutSoFar}
+use Rattle.classes.proofs.Laws.Cut.{CutSoFar}
 use Rattle.classes.proofs.cuts.class_cut.Given as goal
 
 abbrev pub invariant-loop-j : goal.invariant-loop-j

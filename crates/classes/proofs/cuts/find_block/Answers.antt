@@ -9,8 +9,8 @@ use native.Mathlib.Omega.{arith}
 use lib.ListN.{length}
 use lib.IntN.{ℤ}
 use borrow.Author.Rules.{rules}
-use Rattle.classes.specs.Laws.Halves.{above, middle, above_inside, half_inside, half_part}
-use Rattle.classes.specs.Laws.Finding.{search_ready, search_finds, first_found}
+use Rattle.classes.proofs.Laws.Halves.{above, middle, above_inside, half_inside, half_part}
+use Rattle.classes.proofs.Laws.Finding.{search_ready, search_finds, first_found}
 use Rattle.classes.proofs.cuts.find_block.Goals as goal
 use Rattle.classes.proofs.cuts.find_block.Goals.{then-j-eq0-2, else-j-eq0-2, Else-j-eq0, Joined-j-eq0-2, Start}
 

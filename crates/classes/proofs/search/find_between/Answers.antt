@@ -10,7 +10,7 @@ use borrow.Author.Rules.{rules}
 use Rattle.blocks.specs.Blocks.{differences}
 use Rattle.blocks.specs.Classes.{same}
 use Rattle.classes.specs.Inner.Searching.{part_differences, first_between}
-use Rattle.classes.specs.Laws.Searching.{length_parts, part_at, between_none, between_here, between_later}
+use Rattle.classes.proofs.Laws.Searching.{length_parts, part_at, between_none, between_here, between_later}
 use Rattle.classes.proofs.search.find_between.Goals as goal
 use Rattle.classes.proofs.search.find_between.Goals.{After-same_other, Else-class-to}
 

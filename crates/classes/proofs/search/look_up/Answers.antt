@@ -4,7 +4,7 @@ use mathlib.Core.Path.{sym, ◌∙◌}
 use native.Mathlib.Omega.{arith}
 use lib.ListN.{length}
 use borrow.Author.Rules.{rules}
-use Rattle.classes.specs.Laws.Searching.{first_class, latest_known, latest_found, before_found, behind_found, none_found}
+use Rattle.classes.proofs.Laws.Searching.{first_class, latest_known, latest_found, before_found, behind_found, none_found}
 use Rattle.classes.proofs.search.look_up.Goals as goal
 use Rattle.classes.proofs.search.look_up.Goals.{Else-firsts-eq0}
 

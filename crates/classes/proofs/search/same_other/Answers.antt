@@ -6,7 +6,7 @@ use lib.ListN.{take, drop}
 use mir.Syntax.{w64}
 use mir.Val.{of_z}
 use Rattle.blocks.specs.Inner.Layout.{part, last_difference}
-use Rattle.blocks.specs.Laws.Comparing.{unlike_last}
+use Rattle.blocks.proofs.Laws.Comparing.{unlike_last}
 use Rattle.classes.proofs.search.same_other.Goals as goal
 
 pub returns-then-there-last_difference : goal.returns-then-there-last_difference

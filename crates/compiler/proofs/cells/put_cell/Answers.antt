@@ -3,7 +3,7 @@ use Prim.Native.Nat.{◌+◌}
 use mathlib.Core.Path.{ap}
 use Rattle.cascade.specs.Cascade.{cell_of}
 use Rattle.compiler.specs.Inner.Writing.{cell_bytes}
-use Rattle.numbers.specs.Laws.Written.{tail_back}
+use Rattle.numbers.proofs.Laws.Written.{tail_back}
 use Rattle.compiler.proofs.cells.put_cell.Goals as goal
 
 pub returns : goal.returns

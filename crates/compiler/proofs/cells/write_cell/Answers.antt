@@ -4,8 +4,8 @@ use mathlib.Core.Path.{sym, ◌∙◌, ap}
 use native.Mathlib.Omega.{arith}
 use lib.ListN.{length}
 use mir.Facts.{Fits-of_lt}
-use Rattle.compiler.specs.Laws.Cells.{planned_length_lem, cell_written}
-use Rattle.compiler.specs.Laws.Words.{group_most, width_most, words_most, count_is}
+use Rattle.compiler.proofs.Laws.Cells.{planned_length_lem, cell_written}
+use Rattle.compiler.proofs.Laws.Words.{group_most, width_most, words_most, count_is}
 use Rattle.compiler.proofs.cells.write_cell.Goals as goal
 use Rattle.compiler.proofs.cells.write_cell.Goals.{Start}
 

@@ -4,11 +4,11 @@ use mathlib.Core.Path.{◌≡◌}
 use native.Mathlib.Omega.{arith}
 use lib.ListN.{length, get_or}
 use mir.Facts.{Fits-of_lt}
-use Rattle.cascade.specs.Laws.Cells.{variables_most}
+use Rattle.cascade.proofs.Laws.Cells.{variables_most}
 use Rattle.cascade.specs.declared.Cell.{Cell as PlanCell}
 use Rattle.cascade.specs.Inner.Planned.{groups}
 use Rattle.compiler.specs.Inner.WordWriting.{CellPlanned}
-use Rattle.compiler.specs.Laws.Cells.{count_most, inside, size_is, next_planned, no_cells, cell_room, next_cell, cells_kept, all_cells, groups_count}
+use Rattle.compiler.proofs.Laws.Cells.{count_most, inside, size_is, next_planned, no_cells, cell_room, next_cell, cells_kept, all_cells, groups_count}
 use Rattle.compiler.proofs.cells.write_cells.Goals as goal
 use Rattle.compiler.proofs.cells.write_cells.Goals.{In-loop-k}
 

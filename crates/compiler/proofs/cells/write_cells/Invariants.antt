@@ -1,6 +1,6 @@
 use Prim.Native.Nat.{◌-◌}
 use Rattle.cascade.specs.Inner.Planned.{groups}
-use Rattle.compiler.specs.Laws.Cells.{CellsWritten}
+use Rattle.compiler.proofs.Laws.Cells.{CellsWritten}
 use Rattle.compiler.proofs.cells.write_cells.Given as goal
 
 abbrev pub invariant-loop-k : goal.invariant-loop-k

@@ -8,10 +8,10 @@ use mir.Val.{of_z, to_z}
 use mir.Facts.{to_z-of_z}
 use borrow.Author.Rules.{sfits_of}
 use Rattle.blocks.specs.Blocks.{first}
-use Rattle.cascade.specs.Laws.Cells.{variables_most}
+use Rattle.cascade.proofs.Laws.Cells.{variables_most}
 use Rattle.cascade.specs.Inner.Planned.{groups}
 use Rattle.compiler.specs.Inner.Writing.{cells_bytes}
-use Rattle.compiler.specs.Laws.Images.{image_bytes, image_written}
+use Rattle.compiler.proofs.Laws.Images.{image_bytes, image_written}
 use Rattle.compiler.proofs.cells.write_image.Goals as goal
 use Rattle.compiler.proofs.cells.write_image.Goals.{Start}
 

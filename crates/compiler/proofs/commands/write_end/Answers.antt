@@ -1,5 +1,5 @@
 -- `commands::write_end` meets its contract.
-use Rattle.compiler.specs.Laws.Commands.{end_written}
+use Rattle.compiler.proofs.Laws.Commands.{end_written}
 use Rattle.compiler.proofs.commands.write_end.Goals as goal
 
 pub returns : goal.returns

@@ -1,5 +1,5 @@
 -- `commands::write_head` meets its contract.
-use Rattle.compiler.specs.Laws.Commands.{head_written}
+use Rattle.compiler.proofs.Laws.Commands.{head_written}
 use Rattle.compiler.proofs.commands.write_head.Goals as goal
 
 pub returns : goal.returns

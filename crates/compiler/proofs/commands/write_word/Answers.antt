@@ -1,6 +1,6 @@
 -- `commands::write_word` meets its contract.
 use mir.Facts.{to_z-of_z}
-use Rattle.compiler.specs.Laws.Commands.{word_written}
+use Rattle.compiler.proofs.Laws.Commands.{word_written}
 use Rattle.compiler.proofs.commands.write_word.Goals as goal
 
 pub returns : goal.returns

@@ -2,7 +2,7 @@
 use Prim.Native.Nat.{◌+◌, ◌*◌, ◌%◌, ◌^◌}
 use mathlib.Core.Path.{◌≡◌, ap}
 use native.Mathlib.Omega.{arith}
-use Rattle.numbers.specs.Laws.Pieces.{shifted_one}
+use Rattle.numbers.proofs.Laws.Pieces.{shifted_one}
 use Rattle.compiler.specs.Inner.Lengths.{planned_bytes}
 use Rattle.compiler.proofs.lengths.cell_length.Goals as goal
 use Rattle.compiler.proofs.lengths.cell_length.Goals.{Start}

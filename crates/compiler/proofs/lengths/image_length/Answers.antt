@@ -6,7 +6,7 @@ use lib.ListN.{take}
 use mir.Facts.{Fits-of_lt}
 use Rattle.cascade.specs.Plan.{no_cell}
 use Rattle.compiler.specs.Inner.Lengths.{planned_length}
-use Rattle.compiler.specs.Laws.Measuring.{MeasuredTo, none_measured, one_measured}
+use Rattle.compiler.proofs.Laws.Measuring.{MeasuredTo, none_measured, one_measured}
 use Rattle.compiler.proofs.lengths.image_length.Goals as goal
 use Rattle.compiler.proofs.lengths.image_length.Goals.{After-cell_length-length}
 

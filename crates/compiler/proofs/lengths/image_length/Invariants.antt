@@ -1,5 +1,5 @@
 use Prim.Native.Nat.{◌-◌}
-use Rattle.compiler.specs.Laws.Measuring.{MeasuredTo}
+use Rattle.compiler.proofs.Laws.Measuring.{MeasuredTo}
 use Rattle.compiler.proofs.lengths.image_length.Given as goal
 
 abbrev pub invariant-loop-k : goal.invariant-loop-k

@@ -1,6 +1,6 @@
 -- `nodes::count_branching` meets its contract. The loop's invariant: how many of the classes so far branch.
 use mathlib.Core.Path.{sym, ◌∙◌}
-use Rattle.compiler.specs.Laws.Counting.{none_branching, class_of_cut, one_branching, one_passing, all_branching, few_classes}
+use Rattle.compiler.proofs.Laws.Counting.{none_branching, class_of_cut, one_branching, one_passing, all_branching, few_classes}
 use native.Mathlib.Omega.{arith}
 use mir.Facts.{Fits-of_lt}
 use Rattle.compiler.proofs.nodes.count_branching.Goals as goal

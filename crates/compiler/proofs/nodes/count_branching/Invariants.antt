@@ -1,5 +1,5 @@
 use Prim.Native.Nat.{◌-◌}
-use Rattle.compiler.specs.Laws.Counting.{BranchingTo}
+use Rattle.compiler.proofs.Laws.Counting.{BranchingTo}
 use Rattle.compiler.proofs.nodes.count_branching.Given as goal
 
 abbrev pub invariant-loop-c : goal.invariant-loop-c

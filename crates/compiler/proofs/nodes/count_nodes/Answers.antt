@@ -2,7 +2,7 @@
 use Prim.Native.Nat.{◌+◌, ◌<◌}
 use native.Mathlib.Omega.{arith}
 use mir.Facts.{Fits-of_lt}
-use Rattle.compiler.specs.Laws.Counting.{NodesTo, terminal_alone, cut_place_lem, cut_counted, cuts_small, one_cut, all_cuts}
+use Rattle.compiler.proofs.Laws.Counting.{NodesTo, terminal_alone, cut_place_lem, cut_counted, cuts_small, one_cut, all_cuts}
 use Rattle.compiler.proofs.nodes.count_nodes.Goals as goal
 use Rattle.compiler.proofs.nodes.count_nodes.Goals.{After-count_branching-nodes}
 

@@ -1,5 +1,5 @@
 use Prim.Native.Nat.{◌-◌}
-use Rattle.compiler.specs.Laws.Counting.{NodesTo}
+use Rattle.compiler.proofs.Laws.Counting.{NodesTo}
 use Rattle.compiler.proofs.nodes.count_nodes.Given as goal
 
 abbrev pub invariant-loop-h : goal.invariant-loop-h

@@ -5,8 +5,8 @@ use Rattle.cascade.specs.Compile.{image_for}
 use Rattle.cascade.specs.declared.Compiled.{Compiled}
 use Rattle.cascade.specs.Inner.Planned.{groups}
 use Rattle.compiler.specs.Inner.Placing.{Places}
-use Rattle.compiler.specs.Laws.Compiles.{places_short, places_image}
-use Rattle.compiler.specs.Laws.Planned.{length_is, small_cells, cells_planned}
+use Rattle.compiler.proofs.Laws.Compiles.{places_short, places_image}
+use Rattle.compiler.proofs.Laws.Planned.{length_is, small_cells, cells_planned}
 use Rattle.compiler.proofs.placing.place_image.Goals as goal
 use Rattle.compiler.proofs.placing.place_image.Goals.{After-image_length-length}
 

@@ -6,7 +6,7 @@ use native.Mathlib.Omega.{arith}
 use lib.ListN.{length, take}
 use lib.Seq.{length-take-le}
 use Rattle.blocks.specs.Rows.{cut_place}
-use Rattle.cascade.specs.Laws.Cells.{variables_most}
+use Rattle.cascade.proofs.Laws.Cells.{variables_most}
 use Rattle.compiler.proofs.placing.place_table.Goals as goal
 use Rattle.compiler.proofs.placing.place_table.Goals.{After-power-places, Start}
 

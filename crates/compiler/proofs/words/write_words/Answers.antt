@@ -10,7 +10,7 @@ use borrow.Author.Rules.{sfits_of}
 use Rattle.image.specs.Commands.{word_command}
 use Rattle.cascade.specs.Cascade.{cell_of}
 use Rattle.cascade.specs.Inner.Words.{cell_word}
-use Rattle.compiler.specs.Laws.Words.{no_words, words_kept, next_word, all_words, words_are, words_most, count_is, group_most, word_ready}
+use Rattle.compiler.proofs.Laws.Words.{no_words, words_kept, next_word, all_words, words_are, words_most, count_is, group_most, word_ready}
 use Rattle.compiler.proofs.words.write_words.Goals as goal
 use Rattle.compiler.proofs.words.write_words.Goals.{At-loop-k, In-loop-k}
 

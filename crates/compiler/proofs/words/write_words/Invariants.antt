@@ -1,5 +1,5 @@
 use Prim.Native.Nat.{◌-◌}
-use Rattle.compiler.specs.Laws.Words.{WordsWritten}
+use Rattle.compiler.proofs.Laws.Words.{WordsWritten}
 use Rattle.compiler.proofs.words.write_words.Given as goal
 
 abbrev pub invariant-loop-k : goal.invariant-loop-k

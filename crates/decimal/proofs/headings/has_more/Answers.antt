@@ -5,7 +5,7 @@ use lib.ListN.{length}
 use lib.Dec.{eqb}
 use Rattle.decimal.specs.Table.{has_more}
 use Rattle.decimal.specs.declared.Position.{Position}
-use Rattle.decimal.specs.Laws.Positions.{skipped_none, skipped_word}
+use Rattle.decimal.proofs.Laws.Positions.{skipped_none, skipped_word}
 use Rattle.decimal.proofs.headings.has_more.Goals as goal
 
 pub returns-then-text-next : goal.returns-then-text-next

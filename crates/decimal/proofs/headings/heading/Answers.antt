@@ -8,7 +8,7 @@ use Rattle.decimal.specs.declared.Heading.TheVariants.{Found}
 use Rattle.decimal.specs.declared.Item.TheVariants.{Valued}
 use Rattle.numbers.specs.Ranges.{within}
 use Rattle.decimal.specs.Inner.Items.{heading_of, heading_at}
-use Rattle.decimal.specs.Laws.Items.{heading_found, heading_other_line, heading_outside}
+use Rattle.decimal.proofs.Laws.Items.{heading_found, heading_other_line, heading_outside}
 use borrow.Author.Rules.{rules}
 use Rattle.decimal.proofs.headings.heading.Goals as goal
 use Rattle.decimal.proofs.headings.heading.Goals.{After-is_within, In-Valued}

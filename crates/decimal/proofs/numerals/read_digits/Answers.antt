@@ -7,8 +7,8 @@ use lib.ListN.{get_or}
 use lib.Dec.{leb}
 use borrow.Author.Tests.{leb-true}
 use Rattle.lines.specs.Reading.{is_digit}
-use Rattle.numbers.specs.Laws.Bools.{both}
-use Rattle.decimal.specs.Laws.Numbers.{no_digits, digits_start, digit_read, other_byte, digit_too_many, digits_read}
+use Rattle.numbers.proofs.Laws.Bools.{both}
+use Rattle.decimal.proofs.Laws.Numbers.{no_digits, digits_start, digit_read, other_byte, digit_too_many, digits_read}
 use Rattle.decimal.proofs.numerals.read_digits.Goals as goal
 use Rattle.decimal.proofs.numerals.read_digits.Goals.{Else-not-is_digit}
 

@@ -1,6 +1,6 @@
 use Prim.Native.Nat.{◌-◌}
 use lib.ListN.{length}
-use Rattle.decimal.specs.Laws.Numbers.{DigitsSoFar}
+use Rattle.decimal.proofs.Laws.Numbers.{DigitsSoFar}
 use Rattle.decimal.proofs.numerals.read_digits.Given as goal
 
 abbrev pub invariant-loop-at : goal.invariant-loop-at

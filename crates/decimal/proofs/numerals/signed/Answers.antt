@@ -8,7 +8,7 @@ use mir.Val.{SFits, to_z}
 use mir.Facts.{to_z_pos, to_z-of_z}
 use Rattle.decimal.specs.declared.Number.TheVariants.{Whole}
 use Rattle.decimal.specs.Inner.Numbers.{largest_size, signed_number}
-use Rattle.decimal.specs.Laws.Numbers.{minus_one_less, minus_zero, negative_whole, positive_whole, positive_large}
+use Rattle.decimal.proofs.Laws.Numbers.{minus_one_less, minus_zero, negative_whole, positive_whole, positive_large}
 use Rattle.decimal.proofs.numerals.signed.Goals as goal
 use Rattle.decimal.proofs.numerals.signed.Goals.{Else-size-eq0, Else-size-eq2147483648}
 

@@ -5,7 +5,7 @@ use mathlib.Core.List.{List}
 use native.Mathlib.Omega.{arith}
 use lib.ListN.{length, get_or, drop}
 use Rattle.decimal.specs.Inner.Numbers.{largest_size, small_number, sign_length}
-use Rattle.decimal.specs.Laws.Numbers.{sign_short, empty_word, word_small, word_not_small}
+use Rattle.decimal.proofs.Laws.Numbers.{sign_short, empty_word, word_small, word_not_small}
 use Rattle.decimal.proofs.numerals.word_number.Goals as goal
 use Rattle.decimal.proofs.numerals.word_number.Goals.{After-read_digits, After-sign_length}
 

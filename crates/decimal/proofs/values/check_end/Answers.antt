@@ -8,7 +8,7 @@ use Rattle.decimal.specs.declared.Body.TheVariants.{Wrong}
 use Rattle.decimal.specs.Words.{last_line}
 use Rattle.decimal.specs.Table.{values_read}
 use Rattle.decimal.specs.Inner.Values.{body_judged}
-use Rattle.decimal.specs.Laws.Positions.{skipped_none, skipped_word}
+use Rattle.decimal.proofs.Laws.Positions.{skipped_none, skipped_word}
 use Rattle.decimal.proofs.values.check_end.Goals as goal
 
 pub returns-then-text-next : goal.returns-then-text-next

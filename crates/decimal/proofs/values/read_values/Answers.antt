@@ -9,9 +9,9 @@ use mir.Syntax.{w32}
 use mir.Val.{of_z, to_z}
 use Rattle.decimal.specs.declared.Position.{Position}
 use Rattle.decimal.specs.declared.Item.{Item}
-use Rattle.decimal.specs.Laws.Items.{Seen, item_seen}
+use Rattle.decimal.proofs.Laws.Items.{Seen, item_seen}
 use borrow.Author.Rules.{rules}
-use Rattle.decimal.specs.Laws.Values.{no_values, values_kept, all_checked, all_written, next_value, other_checked, other_written}
+use Rattle.decimal.proofs.Laws.Values.{no_values, values_kept, all_checked, all_written, next_value, other_checked, other_written}
 use Rattle.decimal.proofs.values.read_values.Goals as goal
 use Rattle.decimal.proofs.values.read_values.Goals.{After-next_item, At-loop-j, In-Valued}
 

@@ -1,5 +1,5 @@
 use Prim.Native.Nat.{◌-◌}
-use Rattle.decimal.specs.Laws.Values.{ValuesSoFar}
+use Rattle.decimal.proofs.Laws.Values.{ValuesSoFar}
 use Rattle.decimal.proofs.values.read_values.Given as goal
 
 abbrev pub invariant-loop-j : goal.invariant-loop-j

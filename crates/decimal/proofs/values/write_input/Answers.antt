@@ -10,9 +10,9 @@ use lib.IntN.{pos}
 use mir.Val.{of_z, to_z}
 use borrow.Author.Rules.{rules}
 use Rattle.operands.specs.Bytes.{signed_bytes}
-use Rattle.lines.specs.Laws.Pieces.{no_pieces, pieces_kept, piece_written, all_pieces}
+use Rattle.lines.proofs.Laws.Pieces.{no_pieces, pieces_kept, piece_written, all_pieces}
 use Rattle.decimal.specs.Table.{Table}
-use Rattle.decimal.specs.Laws.Buffers.{values_length, value_written, input_length_lem, input_written}
+use Rattle.decimal.proofs.Laws.Buffers.{values_length, value_written, input_length_lem, input_written}
 use Rattle.decimal.proofs.values.write_input.Goals as goal
 use Rattle.decimal.proofs.values.write_input.Goals.{At-loop-j}
 

@@ -1,7 +1,7 @@
 use Prim.Native.Nat.{◌+◌, ◌-◌, ◌*◌}
 use lib.ListN.{length}
 use Rattle.operands.specs.Bytes.{signed_bytes}
-use Rattle.lines.specs.Laws.Pieces.{PiecesWritten}
+use Rattle.lines.proofs.Laws.Pieces.{PiecesWritten}
 use Rattle.decimal.proofs.values.write_input.Given as goal
 
 abbrev pub invariant-loop-j : goal.invariant-loop-j

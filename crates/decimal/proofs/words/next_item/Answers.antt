@@ -9,7 +9,7 @@ use Rattle.decimal.specs.declared.Item.TheVariants.{Valued}
 use Rattle.decimal.specs.Inner.Positions.{word_length}
 use Rattle.decimal.specs.Inner.Numbers.{word_number}
 use Rattle.decimal.specs.Inner.Items.{word_there, word_behind, word_item, item_there, item_at}
-use Rattle.decimal.specs.Laws.Positions.{skipped_is, word_fits}
+use Rattle.decimal.proofs.Laws.Positions.{skipped_is, word_fits}
 use borrow.Author.Rules.{rules}
 use Rattle.decimal.proofs.words.next_item.Goals as goal
 use Rattle.decimal.proofs.words.next_item.Goals.{After-skip-first, After-word_number}

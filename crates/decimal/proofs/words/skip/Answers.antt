@@ -6,8 +6,8 @@ use lib.ListN.{get_or}
 use borrow.Author.Tests.{eq-eqb, ne_eqb}
 use Rattle.decimal.specs.Words.{is_newline}
 use Rattle.decimal.specs.Inner.Positions.{line_after}
-use Rattle.decimal.specs.Laws.Words.{line_after_newline, line_after_other}
-use Rattle.decimal.specs.Laws.Positions.{stepped, skipping_on, skip_stops, skip_ends, line_small}
+use Rattle.decimal.proofs.Laws.Words.{line_after_newline, line_after_other}
+use Rattle.decimal.proofs.Laws.Positions.{stepped, skipping_on, skip_stops, skip_ends, line_small}
 use Rattle.decimal.proofs.words.skip.Goals as goal
 use Rattle.decimal.proofs.words.skip.Goals.{Joined-byte-eq10, then-byte-eq10, else-byte-eq10}
 

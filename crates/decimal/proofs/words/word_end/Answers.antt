@@ -1,7 +1,7 @@
 -- `words::word_end` meets its contract. The loop's invariant: the word ends as far behind the place as it is left.
 use mathlib.Core.Path.{refl, sym, ◌∙◌}
 use native.Mathlib.Omega.{arith}
-use Rattle.decimal.specs.Laws.Positions.{word_goes_on, word_stops, word_ends}
+use Rattle.decimal.proofs.Laws.Positions.{word_goes_on, word_stops, word_ends}
 use Rattle.decimal.proofs.words.word_end.Goals as goal
 
 pub loop-at-init : goal.loop-at-init

@@ -1,6 +1,6 @@
 use Prim.Native.Nat.{◌-◌}
 use lib.ListN.{length}
-use Rattle.decimal.specs.Laws.Positions.{WordPassed}
+use Rattle.decimal.proofs.Laws.Positions.{WordPassed}
 use Rattle.decimal.proofs.words.word_end.Given as goal
 
 abbrev pub invariant-loop-at : goal.invariant-loop-at

@@ -5,7 +5,7 @@ use lib.ListN.{length}
 use lib.Seq.{length-take-le}
 use borrow.Author.Rules.{rules}
 use Rattle.image.specs.Run.{expanded}
-use Rattle.demands.specs.Laws.Clients.{front_inside, expand_gives, expand_refused}
+use Rattle.demands.proofs.Laws.Clients.{front_inside, expand_gives, expand_refused}
 use Rattle.demands.proofs.clients.expand_table.Goals as goal
 use Rattle.demands.proofs.clients.expand_table.Goals.{In-Image}
 

@@ -7,7 +7,7 @@ use mir.Facts.{to_z-of_z}
 use borrow.Author.Rules.{scaled_Fits}
 use Rattle.diagram.specs.Records.{record_size}
 use Rattle.diagram.specs.Walk.{number_at}
-use Rattle.diagram.specs.Laws.Checks.{number_inside}
+use Rattle.diagram.proofs.Laws.Checks.{number_inside}
 use Rattle.diagram.proofs.records.number_at.Goals as goal
 use Rattle.diagram.proofs.records.number_at.Goals.{Start}
 

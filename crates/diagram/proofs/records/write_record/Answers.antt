@@ -5,7 +5,7 @@ use lib.ListN.{length, length-set}
 use lib.IntN.{pos}
 use mir.Syntax.{w32}
 use mir.Facts.{to_z_pos, to_z-of_z}
-use Rattle.numbers.specs.Laws.Rows.{six_stored}
+use Rattle.numbers.proofs.Laws.Rows.{six_stored}
 use Rattle.diagram.specs.Records.{record_size, record_numbers}
 use Rattle.diagram.proofs.records.write_record.Goals as goal
 use Rattle.diagram.proofs.records.write_record.Goals.{Start}

@@ -9,7 +9,7 @@ use Rattle.numbers.specs.Ranges.{is_variables}
 use Rattle.diagram.specs.Build.{of_table}
 use Rattle.diagram.specs.Inner.Checks.{table_checks}
 use Rattle.numbers.specs.Inner.Checks.{checked}
-use Rattle.diagram.specs.Laws.Checks.{variables_range}
+use Rattle.diagram.proofs.Laws.Checks.{variables_range}
 use Rattle.diagram.proofs.tables.check_table.Goals as goal
 use Rattle.diagram.proofs.tables.check_table.Goals.{Else-not-is_variables, Else-table-power}
 

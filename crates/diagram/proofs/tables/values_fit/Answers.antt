@@ -2,7 +2,7 @@
 use mathlib.Core.Path.{refl, sym, ◌∙◌}
 use native.Mathlib.Omega.{arith}
 use Rattle.numbers.specs.Ranges.{is_value}
-use Rattle.diagram.specs.Laws.Checks.{passes_at, fails_at, nothing_left}
+use Rattle.diagram.proofs.Laws.Checks.{passes_at, fails_at, nothing_left}
 use Rattle.diagram.proofs.tables.values_fit.Goals as goal
 
 pub loop-x-init : goal.loop-x-init

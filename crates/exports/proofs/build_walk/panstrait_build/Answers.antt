@@ -9,7 +9,7 @@ use Rattle.diagram.specs.Build.{built, Builds}
 use Rattle.diagram.specs.declared.Built.{Built}
 use Rattle.exports.specs.Results.{result_of, left_behind}
 use Rattle.exports.specs.DiagramGiven.{BuildGiven}
-use Rattle.exports.specs.Laws.DiagramGiven.{build_given}
+use Rattle.exports.proofs.Laws.DiagramGiven.{build_given}
 use Rattle.exports.proofs.build_walk.panstrait_build.Goals as goal
 use Rattle.exports.proofs.build_walk.panstrait_build.Goals.{After-build-answer}
 

@@ -7,7 +7,7 @@ use Rattle.numbers.specs.Answers.{accepted, refused}
 use Rattle.diagram.specs.Walk.{walk, walked}
 use Rattle.diagram.specs.declared.Walked.{Walked}
 use Rattle.exports.specs.DiagramGiven.{WalkGiven}
-use Rattle.exports.specs.Laws.DiagramGiven.{walk_given}
+use Rattle.exports.proofs.Laws.DiagramGiven.{walk_given}
 use Rattle.exports.proofs.build_walk.panstrait_walk.Goals as goal
 use Rattle.exports.proofs.build_walk.panstrait_walk.Goals.{After-walk-answer}
 

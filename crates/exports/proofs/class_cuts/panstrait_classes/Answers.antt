@@ -2,7 +2,7 @@
 -- nothing.
 use mathlib.Core.Path.{refl, sym, ◌∙◌}
 use borrow.Author.Rules.{rules}
-use Rattle.exports.specs.Laws.Room.{sizes_room}
+use Rattle.exports.proofs.Laws.Room.{sizes_room}
 use Rattle.exports.proofs.class_cuts.panstrait_classes.Goals as goal
 
 pub class_cuts-requires : goal.class_cuts-requires

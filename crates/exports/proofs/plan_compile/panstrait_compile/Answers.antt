@@ -1,6 +1,6 @@
 -- `exports_cascade::panstrait_compile` meets its contract.
 use borrow.Author.Rules.{rules}
-use Rattle.exports.specs.Laws.Planned.{compile_given, compile_refused}
+use Rattle.exports.proofs.Laws.Planned.{compile_given, compile_refused}
 use Rattle.exports.proofs.plan_compile.panstrait_compile.Goals as goal
 
 pub returns-in-Image : goal.returns-in-Image

@@ -1,6 +1,6 @@
 -- `exports_cascade::panstrait_plan` meets its contract.
 use borrow.Author.Rules.{rules}
-use Rattle.exports.specs.Laws.Planned.{plan_given, plan_refused}
+use Rattle.exports.proofs.Laws.Planned.{plan_given, plan_refused}
 use Rattle.exports.proofs.plan_compile.panstrait_plan.Goals as goal
 
 pub returns-in-Grouping : goal.returns-in-Grouping

@@ -1,6 +1,6 @@
 -- `exports_reach::panstrait_reach` meets its contract.
 use borrow.Author.Rules.{rules}
-use Rattle.exports.specs.Laws.ReachGiven.{reach_given, reach_refused}
+use Rattle.exports.proofs.Laws.ReachGiven.{reach_given, reach_refused}
 use Rattle.exports.proofs.reach_cuts.panstrait_reach.Goals as goal
 
 pub returns-in-Cuts : goal.returns-in-Cuts

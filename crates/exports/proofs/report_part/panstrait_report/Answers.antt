@@ -7,7 +7,7 @@ use borrow.Author.Rules.{rules}
 use Rattle.numbers.specs.Answers.{accepted, refused}
 use Rattle.report.specs.Report.{report, reported}
 use Rattle.report.specs.declared.Reported.{Reported}
-use Rattle.exports.specs.Laws.ReportGiven.{report_given}
+use Rattle.exports.proofs.Laws.ReportGiven.{report_given}
 use Rattle.exports.proofs.report_part.panstrait_report.Goals as goal
 use Rattle.exports.proofs.report_part.panstrait_report.Goals.{After-report-answer}
 

@@ -5,7 +5,7 @@ use Rattle.image.specs.Run.{expanded, Expands}
 use Rattle.image.specs.declared.Expanded.{Expanded}
 use Rattle.exports.specs.Results.{result_of}
 use Rattle.exports.specs.ImageGiven.{ExpandGiven}
-use Rattle.exports.specs.Laws.ImageGiven.{expand_given}
+use Rattle.exports.proofs.Laws.ImageGiven.{expand_given}
 use Rattle.exports.proofs.run_expand.panstrait_expand.Goals as goal
 use Rattle.exports.proofs.run_expand.panstrait_expand.Goals.{After-expand-answer}
 

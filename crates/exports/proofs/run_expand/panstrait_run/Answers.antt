@@ -1,6 +1,6 @@
 -- `exports_image::panstrait_run` meets its contract: Run's answer comes back.
 use borrow.Author.Rules.{rules}
-use Rattle.exports.specs.Laws.RanGiven.{same_given}
+use Rattle.exports.proofs.Laws.RanGiven.{same_given}
 use Rattle.exports.specs.ImageGiven.{RunGiven}
 use Rattle.exports.proofs.run_expand.panstrait_run.Goals as goal
 

@@ -6,7 +6,7 @@ use borrow.Author.Rules.{rules}
 use Rattle.numbers.specs.Answers.{accepted, refused}
 use Rattle.image.specs.Run.{ran}
 use Rattle.exports.specs.RanGiven.{RanGiven}
-use Rattle.exports.specs.Laws.RanGiven.{ran_given}
+use Rattle.exports.proofs.Laws.RanGiven.{ran_given}
 use Rattle.exports.proofs.run_results.hand_back.Goals as goal
 
 pub returns-in-Value : goal.returns-in-Value

@@ -2,7 +2,7 @@
 use lib.ListN.{length}
 use borrow.Author.Rules.{rules}
 use Rattle.sums.specs.Sums.{reduced_sum}
-use Rattle.exports.specs.Laws.SumGiven.{table_given}
+use Rattle.exports.proofs.Laws.SumGiven.{table_given}
 use Rattle.exports.proofs.sum_remainder.panstrait_remainder.Goals as goal
 
 pub returns : goal.returns

@@ -1,7 +1,7 @@
 -- `lines::decimals::digit_count` meets its contract. The loop's invariant: the digits counted and those of what is left are all and
 -- one.
 use native.Mathlib.Omega.{arith}
-use Rattle.lines.specs.Laws.Digits.{counting_starts, counting_next, counting_ends}
+use Rattle.lines.proofs.Laws.Digits.{counting_starts, counting_next, counting_ends}
 use Rattle.lines.proofs.decimals.digit_count.Goals as goal
 
 pub loop-rest-init : goal.loop-rest-init

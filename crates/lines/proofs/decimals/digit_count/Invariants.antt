@@ -1,4 +1,4 @@
-use Rattle.lines.specs.Laws.Digits.{Counting}
+use Rattle.lines.proofs.Laws.Digits.{Counting}
 use Rattle.lines.proofs.decimals.digit_count.Given as goal
 
 abbrev pub invariant-loop-rest : goal.invariant-loop-rest

@@ -2,7 +2,7 @@
 --
 use Prim.Native.Nat.{◌-◌}
 use native.Mathlib.Omega.{arith}
-use Rattle.lines.specs.Laws.Digits.{all_left, next_digit, none_left}
+use Rattle.lines.proofs.Laws.Digits.{all_left, next_digit, none_left}
 use Rattle.lines.proofs.decimals.write_number.Goals as goal
 
 pub loop-left-init : goal.loop-left-init

@@ -1,4 +1,4 @@
-use Rattle.lines.specs.Laws.Digits.{DigitsLeft}
+use Rattle.lines.proofs.Laws.Digits.{DigitsLeft}
 use Rattle.lines.proofs.decimals.write_number.Given as goal
 
 abbrev pub invariant-loop-left : goal.invariant-loop-left

@@ -8,7 +8,7 @@ use lib.IntN.{pos}
 use lib.Signed.{mag}
 use mir.Facts.{to_z-of_z}
 use Rattle.lines.specs.Text.{decimal}
-use Rattle.lines.specs.Laws.Writing.{byte_stored, writes_behind, negative_decimal, other_decimal}
+use Rattle.lines.proofs.Laws.Writing.{byte_stored, writes_behind, negative_decimal, other_decimal}
 use Rattle.lines.proofs.decimals.write_signed.Goals as goal
 use Rattle.lines.proofs.decimals.write_signed.Goals.{Else-number-lt0, Then-number-lt0}
 

@@ -4,8 +4,8 @@ use mathlib.Core.List.{[], ◌∷◌, flat_map}
 use native.Mathlib.Omega.{arith}
 use native.Mathlib.Nat.{add-zero}
 use lib.ListN.{length}
-use Rattle.lines.specs.Laws.Writing.{byte_stored}
-use Rattle.lines.specs.Laws.Pieces.{no_pieces, pieces_kept, piece_written, all_pieces, byte_pieces}
+use Rattle.lines.proofs.Laws.Writing.{byte_stored}
+use Rattle.lines.proofs.Laws.Pieces.{no_pieces, pieces_kept, piece_written, all_pieces, byte_pieces}
 use Rattle.lines.proofs.fields.write_bytes.Goals as goal
 use Rattle.lines.proofs.fields.write_bytes.Goals.{At-loop-i}
 

@@ -1,7 +1,7 @@
 use Prim.Native.Nat.{◌+◌, ◌-◌}
 use mathlib.Core.List.{◌∷◌, []}
 use lib.ListN.{length}
-use Rattle.lines.specs.Laws.Pieces.{PiecesWritten}
+use Rattle.lines.proofs.Laws.Pieces.{PiecesWritten}
 use Rattle.lines.proofs.fields.write_bytes.Given as goal
 
 abbrev pub invariant-loop-i : goal.invariant-loop-i

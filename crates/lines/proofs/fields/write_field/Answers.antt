@@ -4,7 +4,7 @@ use native.Mathlib.Omega.{arith}
 use lib.ListN.{length-set}
 use mir.Facts.{to_z-of_z}
 use Rattle.lines.specs.Inner.Writing.{field}
-use Rattle.lines.specs.Laws.Writing.{byte_stored, writes_behind}
+use Rattle.lines.proofs.Laws.Writing.{byte_stored, writes_behind}
 use Rattle.lines.proofs.fields.write_field.Goals as goal
 
 pub bounds-text-at : goal.bounds-text-at

@@ -9,8 +9,8 @@ use lib.IntN.{pos}
 use mir.Facts.{to_z-of_z}
 use Rattle.lines.specs.Text.{fields}
 use Rattle.lines.specs.Inner.Writing.{Writes, field}
-use Rattle.lines.specs.Laws.Writing.{byte_stored, writes_behind}
-use Rattle.lines.specs.Laws.Pieces.{no_pieces, pieces_kept, piece_room, piece_written, all_pieces, field_pieces}
+use Rattle.lines.proofs.Laws.Writing.{byte_stored, writes_behind}
+use Rattle.lines.proofs.Laws.Pieces.{no_pieces, pieces_kept, piece_room, piece_written, all_pieces, field_pieces}
 use Rattle.lines.proofs.fields.write_fields.Goals as goal
 use Rattle.lines.proofs.fields.write_fields.Goals.{After-loop-i, At-loop-i}
 

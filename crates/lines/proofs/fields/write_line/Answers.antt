@@ -5,7 +5,7 @@ use mathlib.Core.List.{◌++◌}
 use native.Mathlib.Omega.{arith}
 use lib.ListN.{length, length-append}
 use Rattle.lines.specs.Text.{fields}
-use Rattle.lines.specs.Laws.Writing.{writes_behind, same_room}
+use Rattle.lines.proofs.Laws.Writing.{writes_behind, same_room}
 use Rattle.lines.proofs.fields.write_line.Goals as goal
 use Rattle.lines.proofs.fields.write_line.Goals.{Start}
 

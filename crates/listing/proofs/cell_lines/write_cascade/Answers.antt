@@ -9,8 +9,8 @@ use lib.IntN.{pos}
 use Rattle.cascade.specs.Plan.{no_cell}
 use Rattle.lines.specs.Text.{ascii, line}
 use Rattle.lines.specs.Inner.Writing.{Writes}
-use Rattle.lines.specs.Laws.Pieces.{no_pieces, pieces_kept, piece_room, piece_written, all_pieces}
-use Rattle.lines.specs.Laws.Writing.{writes_behind}
+use Rattle.lines.proofs.Laws.Pieces.{no_pieces, pieces_kept, piece_room, piece_written, all_pieces}
+use Rattle.lines.proofs.Laws.Writing.{writes_behind}
 use Rattle.listing.specs.Inner.CellLines.{plan_line, plan_lines, cascade_text}
 use borrow.Author.Rules.{rules}
 use Rattle.listing.proofs.cell_lines.write_cascade.Goals as goal

@@ -1,6 +1,6 @@
 use Prim.Native.Nat.{◌-◌}
 use lib.ListN.{take}
-use Rattle.lines.specs.Laws.Pieces.{PiecesWritten}
+use Rattle.lines.proofs.Laws.Pieces.{PiecesWritten}
 use Rattle.listing.specs.Inner.CellLines.{plan_line}
 use Rattle.listing.proofs.cell_lines.write_cascade.Given as goal
 

@@ -8,7 +8,7 @@ use mir.Val.{of_z, to_z}
 use mir.Facts.{to_z-of_z}
 use borrow.Author.Rules.{sfits_of}
 use Rattle.operands.specs.Bytes.{signed_at}
-use Rattle.listing.specs.Laws.Values.{no_values, values_kept, next_value, all_values}
+use Rattle.listing.proofs.Laws.Values.{no_values, values_kept, next_value, all_values}
 use Rattle.listing.proofs.input.read_values.Goals as goal
 use Rattle.listing.proofs.input.read_values.Goals.{At-loop-j}
 

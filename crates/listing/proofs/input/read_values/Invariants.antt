@@ -1,6 +1,6 @@
 use Prim.Native.Nat.{◌-◌}
 use lib.ListN.{length}
-use Rattle.listing.specs.Laws.Values.{ValuesRead}
+use Rattle.listing.proofs.Laws.Values.{ValuesRead}
 use Rattle.listing.proofs.input.read_values.Given as goal
 
 abbrev pub invariant-loop-j : goal.invariant-loop-j

@@ -9,7 +9,7 @@ use lib.Pow.{pow_mono}
 use borrow.Author.Tests.{lt-leb, le-leb, eq-eqb, ne_eqb}
 use Rattle.listing.specs.Listing.{is_listed}
 use Rattle.listing.specs.Inner.Listed.{input_refusal}
-use Rattle.listing.specs.Laws.Listed.{listed_range}
+use Rattle.listing.proofs.Laws.Listed.{listed_range}
 use Rattle.listing.proofs.input.refusal_of.Goals as goal
 use Rattle.listing.proofs.input.refusal_of.Goals.{After-is_listed, After-power, Else-not-is_listed}
 

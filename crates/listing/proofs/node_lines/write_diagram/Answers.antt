@@ -10,7 +10,7 @@ use mir.Facts.{to_z_pos, to_z-of_z}
 use Rattle.lines.specs.Text.{ascii, line}
 use Rattle.listing.specs.Inner.NodeLines.{record_lines, diagram_text}
 use Rattle.lines.specs.Inner.Writing.{Writes}
-use Rattle.lines.specs.Laws.Writing.{writes_behind, same_room}
+use Rattle.lines.proofs.Laws.Writing.{writes_behind, same_room}
 use Rattle.listing.proofs.node_lines.write_diagram.Goals as goal
 use Rattle.listing.proofs.node_lines.write_diagram.Goals.{After-write_line-first, After-write_nodes-next, Start}
 

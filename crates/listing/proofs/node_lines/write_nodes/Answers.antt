@@ -4,9 +4,9 @@ use mathlib.Core.Path.{◌≡◌, ◌∙◌, ap}
 use native.Mathlib.Omega.{arith}
 use lib.ListN.{length, get_or}
 use Rattle.numbers.specs.Lists.{numbers_from}
-use Rattle.numbers.specs.Laws.Lists.{length_range, get_d_range}
+use Rattle.numbers.proofs.Laws.Lists.{length_range, get_d_range}
 use Rattle.listing.specs.Inner.NodeLines.{record_line, record_lines}
-use Rattle.lines.specs.Laws.Pieces.{no_pieces, pieces_kept, piece_room, piece_written, all_pieces}
+use Rattle.lines.proofs.Laws.Pieces.{no_pieces, pieces_kept, piece_room, piece_written, all_pieces}
 use Rattle.listing.proofs.node_lines.write_nodes.Goals as goal
 use Rattle.listing.proofs.node_lines.write_nodes.Goals.{At-loop-k, In-loop-k}
 

@@ -1,7 +1,7 @@
 use Prim.Native.Nat.{◌-◌}
 use Rattle.numbers.specs.Lists.{numbers_from}
 use Rattle.listing.specs.Inner.NodeLines.{record_line}
-use Rattle.lines.specs.Laws.Pieces.{PiecesWritten}
+use Rattle.lines.proofs.Laws.Pieces.{PiecesWritten}
 use Rattle.listing.proofs.node_lines.write_nodes.Given as goal
 
 abbrev pub invariant-loop-k : goal.invariant-loop-k

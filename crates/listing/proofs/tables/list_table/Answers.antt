@@ -1,8 +1,8 @@
 -- `lister::tables::list_table` meets its contract, by Plan's verdict.
 use native.Mathlib.Omega.{arith}
-use Rattle.cascade.specs.Laws.Planned.{plan_refused, planned_groups}
+use Rattle.cascade.proofs.Laws.Planned.{plan_refused, planned_groups}
 use Rattle.listing.specs.Listing.{answer_text}
-use Rattle.listing.specs.Laws.Texts.{text_ready, refusal_fits}
+use Rattle.listing.proofs.Laws.Texts.{text_ready, refusal_fits}
 use Rattle.listing.proofs.tables.list_table.Goals as goal
 
 pub write_refusal-requires : goal.write_refusal-requires

@@ -12,7 +12,7 @@ use Rattle.diagram.specs.Build.{Builds, node_room}
 use Rattle.diagram.specs.declared.Built.{Built}
 use Rattle.diagram.specs.declared.Built.TheVariants.{Diagram}
 use Rattle.diagram.specs.Records.{records, offset}
-use Rattle.cascade.specs.Laws.Cells.{variables_most}
+use Rattle.cascade.proofs.Laws.Cells.{variables_most}
 use Rattle.cascade.specs.Inner.Planned.{groups}
 use Rattle.listing.specs.Listing.{most_listed, table_text}
 use Rattle.listing.specs.Inner.NodeLines.{diagram_text, RecordsThere}
@@ -21,9 +21,9 @@ use Rattle.listing.specs.Inner.Listed.{TextReady}
 use Rattle.listing.specs.Program.{text_room}
 use Rattle.cascade.specs.declared.Cell.{Cell}
 use Rattle.lines.specs.Inner.Writing.{Writes}
-use Rattle.listing.specs.Laws.Lengths.{table_text_length}
-use Rattle.listing.specs.Laws.Texts.{most_nodes, never_refused, summary_is, records_left, records_there, planned_small, bits_small, whole_text}
-use Rattle.lines.specs.Laws.Writing.{writes_behind, same_room}
+use Rattle.listing.proofs.Laws.Lengths.{table_text_length}
+use Rattle.listing.proofs.Laws.Texts.{most_nodes, never_refused, summary_is, records_left, records_there, planned_small, bits_small, whole_text}
+use Rattle.lines.proofs.Laws.Writing.{writes_behind, same_room}
 use borrow.Author.Rules.{rules}
 use Rattle.listing.proofs.tables.write_table.Goals as goal
 use Rattle.listing.proofs.tables.write_table.Goals.{After-write_diagram-next, In-Diagram}

@@ -1,7 +1,7 @@
 -- `arithmetic::greater_of` meets its contract.
 use mathlib.Core.Path.{◌∙◌, sym}
 use mir.Facts.{to_z-of_z}
-use Rattle.numbers.specs.Laws.Extremes.{greater_first, greater_second}
+use Rattle.numbers.proofs.Laws.Extremes.{greater_first, greater_second}
 use Rattle.numbers.proofs.arithmetic.greater_of.Goals as goal
 
 pub returns-then-a-b : goal.returns-then-a-b

@@ -2,7 +2,7 @@
 use mathlib.Core.Path.{◌∙◌, sym, ap₂}
 use lib.Signed.{le_z}
 use mir.Facts.{to_z-of_z}
-use Rattle.numbers.specs.Laws.Bounds.{within_from, within_below}
+use Rattle.numbers.proofs.Laws.Bounds.{within_from, within_below}
 use Rattle.numbers.proofs.arithmetic.is_within.Goals as goal
 
 pub returns-then-low-number : goal.returns-then-low-number

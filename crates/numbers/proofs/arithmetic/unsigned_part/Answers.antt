@@ -5,7 +5,7 @@ use lib.Signed.{mag}
 use mir.Syntax.{w32}
 use mir.Val.{SFits, of_z, to_z}
 use mir.Facts.{to_z-of_z}
-use Rattle.numbers.specs.Laws.Machine.{complement, not_negative, part_signed, part_back_signed, part_fits, cast_back}
+use Rattle.numbers.proofs.Laws.Machine.{complement, not_negative, part_signed, part_back_signed, part_fits, cast_back}
 use Rattle.numbers.proofs.arithmetic.unsigned_part.Goals as goal
 use Rattle.numbers.proofs.arithmetic.unsigned_part.Goals.{Else-number-lt0, Then-number-lt0}
 

@@ -4,7 +4,7 @@ use mathlib.Core.Path.{◌≡◌, refl, sym, ◌∙◌, ap}
 use native.Mathlib.Omega.{arith}
 use Rattle.numbers.specs.Lists.{least_from, least}
 use Rattle.numbers.specs.Widths.{rail_width}
-use Rattle.numbers.specs.Laws.BitLength.{rail_width_bits}
+use Rattle.numbers.proofs.Laws.BitLength.{rail_width_bits}
 use Rattle.numbers.proofs.widths.rail_width.Goals as goal
 
 no_class : rail_width 0 ≡ 0

@@ -9,7 +9,7 @@ use lib.IntN.{pos}
 use lib.Signed.{mag, lt_z}
 use mir.Facts.{Fits-of_lt, to_z-of_z}
 use Rattle.numbers.specs.Inner.Bits.{bit_length, greatest_part}
-use Rattle.numbers.specs.Laws.BitLength.{bit_length_least, unsigned_length, signed_length, pair_sign, pair_part}
+use Rattle.numbers.proofs.Laws.BitLength.{bit_length_least, unsigned_length, signed_length, pair_sign, pair_part}
 use Rattle.numbers.proofs.widths.weight_width.Goals as goal
 use Rattle.numbers.proofs.widths.weight_width.Goals.{then-low-high, else-low-high, then-least-lt0, else-least-lt0, After-bit_length-bits, Joined-least-lt0}
 

@@ -4,9 +4,9 @@ use mathlib.Core.Path.{sym, ◌∙◌, ap}
 use native.Mathlib.Omega.{arith}
 use Rattle.numbers.specs.Lists.{overwritten}
 use Rattle.operands.specs.Bytes.{big_endian}
-use Rattle.operands.specs.Laws.Bytes.{length_big_endian}
-use Rattle.operands.specs.Laws.Digits.{four_bytes}
-use Rattle.numbers.specs.Laws.Written.{written_behind}
+use Rattle.operands.proofs.Laws.Bytes.{length_big_endian}
+use Rattle.operands.proofs.Laws.Digits.{four_bytes}
+use Rattle.numbers.proofs.Laws.Written.{written_behind}
 use Rattle.operands.proofs.writing.write_four.Goals as goal
 
 pub returns : goal.returns

@@ -5,7 +5,7 @@ use lib.Signed.{mag}
 use mir.Facts.{to_z-of_z}
 use Rattle.numbers.specs.Lists.{overwritten}
 use Rattle.operands.specs.Bytes.{big_endian, signed_bytes}
-use Rattle.operands.specs.Laws.Digits.{negative_bytes, other_bytes}
+use Rattle.operands.proofs.Laws.Digits.{negative_bytes, other_bytes}
 use Rattle.operands.proofs.writing.write_signed.Goals as goal
 
 pub returns-then-number-lt0 : goal.returns-then-number-lt0

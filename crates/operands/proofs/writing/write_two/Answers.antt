@@ -5,8 +5,8 @@ use mathlib.Core.Path.{sym, ◌∙◌, ap}
 use native.Mathlib.Omega.{arith}
 use lib.ListN.{length-set}
 use Rattle.numbers.specs.Lists.{overwritten}
-use Rattle.operands.specs.Laws.Digits.{two_bytes}
-use Rattle.numbers.specs.Laws.Written.{one_stored, stored_behind}
+use Rattle.operands.proofs.Laws.Digits.{two_bytes}
+use Rattle.numbers.proofs.Laws.Written.{one_stored, stored_behind}
 use Rattle.operands.proofs.writing.write_two.Goals as goal
 
 pub bounds-buffer-at-2 : goal.bounds-buffer-at-2

@@ -9,7 +9,7 @@ use Rattle.blocks.specs.Inner.Layout.{in_cut}
 use Rattle.cascade.specs.Inner.Choices.{cost_of}
 use Rattle.cascade.specs.declared.Choice.TheVariants.{NoList}
 use Rattle.planner.specs.Inner.Listed.{size_at, bits_at, width_of_bits, common_at, chosen_cell}
-use Rattle.planner.specs.Laws.Leading.{cost_there, places, moves, bits_ready, uses_inside}
+use Rattle.planner.proofs.Laws.Leading.{cost_there, places, moves, bits_ready, uses_inside}
 use Rattle.planner.proofs.cells.chosen_cell.Goals as goal
 use Rattle.planner.proofs.cells.chosen_cell.Goals.{After-cost_of-2, After-size_of-group}
 

@@ -9,8 +9,8 @@ use Rattle.numbers.specs.Ranges.{most_variables}
 use Rattle.cascade.specs.Plan.{no_cell}
 use Rattle.cascade.specs.declared.Cell.{Cell}
 use Rattle.planner.specs.Inner.Listed.{size_at, chosen_cell, CellChosen}
-use Rattle.planner.specs.Laws.Leading.{moves, places}
-use Rattle.planner.specs.Laws.Listed.{ListedTo, none_listed, room_listed, one_listed, plan_listed}
+use Rattle.planner.proofs.Laws.Leading.{moves, places}
+use Rattle.planner.proofs.Laws.Listed.{ListedTo, none_listed, room_listed, one_listed, plan_listed}
 use Rattle.planner.proofs.cells.list_cells.Goals as goal
 use Rattle.planner.proofs.cells.list_cells.Goals.{After-chosen_cell-cell, In-loop-h}
 

@@ -1,5 +1,5 @@
 use Prim.Native.Nat.{◌-◌}
-use Rattle.planner.specs.Laws.Listed.{ListedTo}
+use Rattle.planner.proofs.Laws.Listed.{ListedTo}
 use Rattle.planner.proofs.cells.list_cells.Given as goal
 
 abbrev pub invariant-loop-h : goal.invariant-loop-h

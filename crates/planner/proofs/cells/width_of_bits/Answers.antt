@@ -5,8 +5,8 @@ use native.Mathlib.Omega.{arith}
 use lib.Pow.{pow_pos}
 use mir.Facts.{Fits-of_lt}
 use Rattle.numbers.specs.Widths.{rail_width}
-use Rattle.numbers.specs.Laws.Pieces.{shifted_one}
-use Rattle.numbers.specs.Laws.Widths.{rail_width_least}
+use Rattle.numbers.proofs.Laws.Pieces.{shifted_one}
+use Rattle.numbers.proofs.Laws.Widths.{rail_width_least}
 use Rattle.planner.specs.Inner.Listed.{width_of_bits}
 use Rattle.planner.proofs.cells.width_of_bits.Goals as goal
 use Rattle.planner.proofs.cells.width_of_bits.Goals.{After-rail_width}

@@ -6,8 +6,8 @@ use lib.ListN.{get_or}
 use mir.Facts.{Fits-of_lt}
 use Rattle.cascade.specs.Inner.Choices.{offered}
 use Rattle.cascade.specs.declared.Choice.TheVariants.{NoList}
-use Rattle.planner.specs.Laws.Pricing.{address_ready, fits_is}
-use Rattle.planner.specs.Laws.Choosing.{trying_all, size_ready, tried_fitting, tried_unfitting, tried_all, cuts_small, offer_small}
+use Rattle.planner.proofs.Laws.Pricing.{address_ready, fits_is}
+use Rattle.planner.proofs.Laws.Choosing.{trying_all, size_ready, tried_fitting, tried_unfitting, tried_all, cuts_small, offer_small}
 use Rattle.planner.proofs.choices.choose.Goals as goal
 use Rattle.planner.proofs.choices.choose.Goals.{In-loop-g, then-cell_fits, else-cell_fits}
 

@@ -1,4 +1,4 @@
-use Rattle.planner.specs.Laws.Choosing.{Trying}
+use Rattle.planner.proofs.Laws.Choosing.{Trying}
 use Rattle.planner.proofs.choices.choose.Given as goal
 
 abbrev pub invariant-loop-g : goal.invariant-loop-g

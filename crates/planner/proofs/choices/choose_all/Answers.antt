@@ -3,8 +3,8 @@ use Prim.Native.Nat.{◌≤◌}
 use mathlib.Core.Path.{◌≡◌}
 use native.Mathlib.Omega.{arith}
 use mir.Facts.{Fits-of_lt}
-use Rattle.cascade.specs.Laws.Cells.{variables_most}
-use Rattle.planner.specs.Laws.Choosing.{chosen_bottom, chosen_next, chosen_all, cut_ready}
+use Rattle.cascade.proofs.Laws.Cells.{variables_most}
+use Rattle.planner.proofs.Laws.Choosing.{chosen_bottom, chosen_next, chosen_all, cut_ready}
 use Rattle.planner.proofs.choices.choose_all.Goals as goal
 use Rattle.planner.proofs.choices.choose_all.Goals.{After-choose-choice, Start}
 

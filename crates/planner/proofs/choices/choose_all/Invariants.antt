@@ -1,4 +1,4 @@
-use Rattle.planner.specs.Laws.Choosing.{ChosenFrom}
+use Rattle.planner.proofs.Laws.Choosing.{ChosenFrom}
 use Rattle.planner.proofs.choices.choose_all.Given as goal
 
 abbrev pub invariant-loop-h : goal.invariant-loop-h

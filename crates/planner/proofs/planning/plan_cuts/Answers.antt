@@ -7,8 +7,8 @@ use Rattle.cascade.specs.Inner.Choices.{table_choice}
 use Rattle.cascade.specs.declared.Choice.TheVariants.{NoList}
 use Rattle.cascade.specs.declared.Planned.{Planned}
 use Rattle.planner.specs.Inner.Listed.{ChoicesKnown, ListChosen}
-use Rattle.planner.specs.Laws.Leading.{array_at}
-use Rattle.planner.specs.Laws.Plans.{refused_plans, plan_none, listed_plans}
+use Rattle.planner.proofs.Laws.Leading.{array_at}
+use Rattle.planner.proofs.Laws.Plans.{refused_plans, plan_none, listed_plans}
 use Rattle.planner.proofs.planning.plan_cuts.Goals as goal
 use Rattle.planner.proofs.planning.plan_cuts.Goals.{After-choose_all-choices, In-Costing}
 

@@ -7,10 +7,10 @@ use lib.ListN.{length}
 use lib.Seq.{length-take-le}
 use lib.Pow.{pow_pos, pow_mono}
 use mir.Facts.{Fits-of_lt}
-use Rattle.numbers.specs.Laws.Rows.{filled_front}
+use Rattle.numbers.proofs.Laws.Rows.{filled_front}
 use Rattle.blocks.specs.Rows.{cut_place, all_numbers, all_firsts, all_counts}
-use Rattle.blocks.specs.Laws.Places.{length_numbers, length_firsts, length_counts}
-use Rattle.cascade.specs.Laws.Cells.{variables_most}
+use Rattle.blocks.proofs.Laws.Places.{length_numbers, length_firsts, length_counts}
+use Rattle.cascade.proofs.Laws.Cells.{variables_most}
 use Rattle.planner.proofs.planning.plan_rows.Goals as goal
 use Rattle.planner.proofs.planning.plan_rows.Goals.{After-power-places, Start}
 

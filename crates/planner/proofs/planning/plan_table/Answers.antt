@@ -7,8 +7,8 @@ use native.Mathlib.Omega.{arith}
 use lib.ListN.{length, length-append}
 use lib.Seq.{length-take-le, take_at}
 use Rattle.numbers.specs.Ranges.{most_variables}
-use Rattle.blocks.specs.Laws.Cuts.{places_most}
-use Rattle.cascade.specs.Laws.Cells.{variables_most}
+use Rattle.blocks.proofs.Laws.Cuts.{places_most}
+use Rattle.cascade.proofs.Laws.Cells.{variables_most}
 use Rattle.planner.specs.Inner.Ready.{PlanRoom}
 use Rattle.planner.proofs.planning.plan_table.Goals as goal
 use Rattle.planner.proofs.planning.plan_table.Goals.{After-class_table}

@@ -4,7 +4,7 @@ use mathlib.Core.Path.{ap}
 use native.Mathlib.Omega.{arith}
 use lib.Dec.{leb}
 use mir.Facts.{Fits-of_lt}
-use Rattle.numbers.specs.Laws.Widths.{rail_width_least}
+use Rattle.numbers.proofs.Laws.Widths.{rail_width_least}
 use Rattle.planner.proofs.prices.cell_fits.Goals as goal
 
 pub offset_bounds-counts-h : goal.offset_bounds-counts-h

@@ -5,7 +5,7 @@ use native.Mathlib.Omega.{arith}
 use mir.Facts.{Fits-of_lt}
 use Rattle.numbers.specs.Widths.{cell_bits}
 use Rattle.blocks.specs.Classes.{class_count}
-use Rattle.planner.specs.Laws.Pricing.{cut_small, end_small, entering_place, leaving_place, entering, leaving, price_fits, price_is}
+use Rattle.planner.proofs.Laws.Pricing.{cut_small, end_small, entering_place, leaving_place, entering, leaving, price_fits, price_is}
 use Rattle.planner.proofs.prices.cell_price.Goals as goal
 
 pub offset_bounds-counts-h : goal.offset_bounds-counts-h

@@ -11,9 +11,9 @@ use mir.Facts.{to_z-of_z, Fits-of_lt}
 use Rattle.numbers.specs.Widths.{weight_width}
 use Rattle.blocks.specs.Classes.{class_count}
 use Rattle.cascade.specs.Cascade.{words_of}
-use Rattle.cascade.specs.Laws.Words.{words_count}
+use Rattle.cascade.proofs.Laws.Words.{words_count}
 use Rattle.planner.specs.Inner.Extremes.{extremes_of}
-use Rattle.planner.specs.Laws.Pricing.{extremes_none, extremes_all, classes_most}
+use Rattle.planner.proofs.Laws.Pricing.{extremes_none, extremes_all, classes_most}
 use Rattle.planner.proofs.prices.cell_width.Goals as goal
 use Rattle.planner.proofs.prices.cell_width.Goals.{In-loop-class}
 

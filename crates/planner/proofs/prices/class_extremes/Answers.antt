@@ -13,10 +13,10 @@ use borrow.Author.Rules.{sfits_of, rules}
 use Rattle.numbers.specs.Ranges.{lesser, greater}
 use Rattle.blocks.specs.Rows.{cut_place}
 use Rattle.cascade.specs.Inner.Words.{cell_word}
-use Rattle.cascade.specs.Laws.Cells.{variables_most}
-use Rattle.cascade.specs.Laws.Words.{sub_blocks}
+use Rattle.cascade.proofs.Laws.Cells.{variables_most}
+use Rattle.cascade.proofs.Laws.Words.{sub_blocks}
 use Rattle.planner.specs.Inner.Extremes.{extremes_of}
-use Rattle.planner.specs.Laws.Pricing.{cut_small, end_small, height_small, lower_small, first_place, from_inside, weight_inside, weight_at_lem, weight_small, one_of_words, extremes_next, values_most}
+use Rattle.planner.proofs.Laws.Pricing.{cut_small, end_small, height_small, lower_small, first_place, from_inside, weight_inside, weight_at_lem, weight_small, one_of_words, extremes_next, values_most}
 use Rattle.planner.proofs.prices.class_extremes.Goals as goal
 use Rattle.planner.proofs.prices.class_extremes.Goals.{After-in_cut, In-loop-place}
 

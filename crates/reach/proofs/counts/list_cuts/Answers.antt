@@ -6,7 +6,7 @@ use native.Mathlib.Omega.{arith}
 use lib.ListN.{set}
 use mir.Facts.{Fits-of_lt}
 use Rattle.numbers.specs.Lists.{numbers_from, padded}
-use Rattle.reach.specs.Laws.Counts.{list_next}
+use Rattle.reach.proofs.Laws.Counts.{list_next}
 use Rattle.reach.proofs.counts.list_cuts.Goals as goal
 use Rattle.reach.proofs.counts.list_cuts.Goals.{In-loop-h}
 

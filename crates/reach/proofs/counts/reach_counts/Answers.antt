@@ -3,7 +3,7 @@ use Prim.Native.Nat.{◌≤◌}
 use native.Mathlib.Numerals.{add-one}
 use native.Mathlib.Omega.{arith}
 use mir.Facts.{Fits-of_lt}
-use Rattle.reach.specs.Laws.Narrowest.{furthest_cut}
+use Rattle.reach.proofs.Laws.Narrowest.{furthest_cut}
 use Rattle.reach.specs.Inner.Counts.{reached_in}
 use Rattle.reach.proofs.counts.reach_counts.Goals as goal
 use Rattle.reach.proofs.counts.reach_counts.Goals.{After-furthest_cut-last}

@@ -5,9 +5,9 @@ use mathlib.Core.Path.{◌≡◌}
 use native.Mathlib.Omega.{arith}
 use native.Mathlib.Decide.{dec_lt}
 use mir.Facts.{Fits-of_lt}
-use Rattle.reach.specs.Laws.Narrowest.{furthest_is}
+use Rattle.reach.proofs.Laws.Narrowest.{furthest_is}
 use Rattle.reach.specs.Inner.NarrowCells.{narrowest_in}
-use Rattle.reach.specs.Laws.NarrowCells.{count_ready}
+use Rattle.reach.proofs.Laws.NarrowCells.{count_ready}
 use Rattle.reach.proofs.narrow_cells.furthest_cut.Goals as goal
 use Rattle.reach.proofs.narrow_cells.furthest_cut.Goals.{Start}
 

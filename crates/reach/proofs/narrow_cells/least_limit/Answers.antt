@@ -5,9 +5,9 @@ use native.Mathlib.Numerals.{add-one}
 use native.Mathlib.Omega.{arith}
 use mir.Facts.{Fits-of_lt}
 use Rattle.reach.specs.Inner.Narrowest.{widest_above}
-use Rattle.reach.specs.Laws.Narrowest.{widest_next, widest_stays}
+use Rattle.reach.proofs.Laws.Narrowest.{widest_next, widest_stays}
 use Rattle.reach.specs.Inner.NarrowCells.{narrowest_in}
-use Rattle.reach.specs.Laws.NarrowCells.{count_ready}
+use Rattle.reach.proofs.Laws.NarrowCells.{count_ready}
 use Rattle.reach.proofs.narrow_cells.least_limit.Goals as goal
 use Rattle.reach.proofs.narrow_cells.least_limit.Goals.{then-least-address, else-least-address}
 

@@ -3,7 +3,7 @@ use Prim.Native.Nat.{◌+◌}
 use mathlib.Core.Path.{ap}
 use native.Mathlib.Omega.{arith}
 use mir.Facts.{Fits-of_lt}
-use Rattle.numbers.specs.Laws.Widths.{rail_width_least}
+use Rattle.numbers.proofs.Laws.Widths.{rail_width_least}
 use Rattle.reach.specs.Inner.NarrowCells.{narrowest_in}
 use Rattle.reach.proofs.narrow_cells.narrowest.Goals as goal
 

@@ -1,7 +1,7 @@
 -- `command_reader::due_kind` meets its contract, test by test.
 use mathlib.Core.Path.{sym}
 use Rattle.image.specs.Inner.Kinds.{due_of}
-use Rattle.image.specs.Laws.Due.{due_table, due_word, due_cell, due_end}
+use Rattle.image.proofs.Laws.Due.{due_table, due_word, due_cell, due_end}
 use Rattle.reader.proofs.commands.due_kind.Goals as goal
 
 pub returns-then-place-eq0 : goal.returns-then-place-eq0

@@ -7,9 +7,9 @@ use lib.Dec.{leb}
 use mir.Facts.{Fits-of_lt}
 use borrow.Author.Tests.{lt-leb, ne_eqb, le-ltb}
 use Rattle.numbers.specs.Ranges.{most_variables, widest_address}
-use Rattle.numbers.specs.Laws.Widths.{rail_width_least}
+use Rattle.numbers.proofs.Laws.Widths.{rail_width_least}
 use Rattle.image.specs.Reader.{keeps_rules, most_classes}
-use Rattle.image.specs.Laws.Rules.{shape_decides}
+use Rattle.image.proofs.Laws.Rules.{shape_decides}
 use Rattle.reader.proofs.operand_rules.cell_keeps.Goals as goal
 use Rattle.reader.proofs.operand_rules.cell_keeps.Goals.{then-group-place+else-outgoing-ne1, else-group-place}
 

@@ -9,11 +9,11 @@ use mir.Val.{of_z}
 use mir.Facts.{to_z-of_z, sfits_lit}
 use borrow.Author.Tests.{le-ltb}
 use Rattle.numbers.specs.Ranges.{most_variables, is_weight}
-use Rattle.numbers.specs.Laws.Machine.{same_bits}
-use Rattle.numbers.specs.Laws.Pieces.{shifted_one}
+use Rattle.numbers.proofs.Laws.Machine.{same_bits}
+use Rattle.numbers.proofs.Laws.Pieces.{shifted_one}
 use Rattle.image.specs.Inner.Bounds.{WithinBounds}
 use Rattle.image.specs.Reader.{keeps_rules}
-use Rattle.image.specs.Laws.Rules.{word_decides, word_ungrounded}
+use Rattle.image.proofs.Laws.Rules.{word_decides, word_ungrounded}
 use Rattle.image.specs.declared.Place.{Place}
 use Rattle.reader.proofs.operand_rules.word_keeps.Goals as goal
 use Rattle.reader.proofs.operand_rules.word_keeps.Goals.{then-place-eq0+else-weight-ne0, else-place-eq0}

@@ -3,13 +3,13 @@ use Prim.Native.Nat.{◌<◌}
 use native.Mathlib.Omega.{arith}
 use mir.Facts.{Fits-of_lt}
 use Rattle.numbers.specs.Ranges.{most_variables}
-use Rattle.numbers.specs.Laws.Pieces.{shifted_one}
+use Rattle.numbers.proofs.Laws.Pieces.{shifted_one}
 use Rattle.image.specs.Inner.Bounds.{CellFits, most_bits}
 use Rattle.image.specs.Inner.Kinds.{width_of}
 use Rattle.image.specs.Reader.{place_after}
 use Rattle.image.specs.WellFormed.{KeepsShape}
-use Rattle.image.specs.Laws.Bounds.{cell_bits_most, cell_fits_lem, words_most}
-use Rattle.image.specs.Laws.Rules.{shape_facts}
+use Rattle.image.proofs.Laws.Bounds.{cell_bits_most, cell_fits_lem, words_most}
+use Rattle.image.proofs.Laws.Rules.{shape_facts}
 use Rattle.reader.proofs.places.after_cell.Goals as goal
 use Rattle.reader.proofs.places.after_cell.Goals.{Start}
 

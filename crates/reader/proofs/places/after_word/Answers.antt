@@ -5,7 +5,7 @@ use mir.Val.{of_z, to_z}
 use mir.Facts.{to_z-of_z}
 use borrow.Author.Rules.{rules}
 use Rattle.numbers.specs.Ranges.{lesser, greater}
-use Rattle.image.specs.Laws.Due.{words_due}
+use Rattle.image.proofs.Laws.Due.{words_due}
 use Rattle.image.specs.Inner.Kinds.{kind_of}
 use Rattle.image.specs.Reader.{place_after}
 use Rattle.reader.proofs.places.after_word.Goals as goal

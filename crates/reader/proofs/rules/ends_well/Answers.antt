@@ -1,6 +1,6 @@
 -- `rules::ends_well` meets its contract.
 use mathlib.Core.Path.{sym, ◌∙◌}
-use Rattle.image.specs.Laws.Due.{ends_well_last, ends_well_before}
+use Rattle.image.proofs.Laws.Due.{ends_well_last, ends_well_before}
 use Rattle.reader.proofs.rules.ends_well.Goals as goal
 
 pub returns-then-is_end : goal.returns-then-is_end

@@ -4,9 +4,9 @@ use mathlib.Core.Path.{◌∙◌, ap}
 use native.Mathlib.Omega.{arith}
 use lib.Pow.{pow_mono}
 use mir.Facts.{to_z-of_z, Fits-of_lt}
-use Rattle.diagram.specs.Laws.Checks.{variables_range}
+use Rattle.diagram.proofs.Laws.Checks.{variables_range}
 use Rattle.report.specs.Inner.Tops.{top_at}
-use Rattle.report.specs.Laws.Tops.{top_next}
+use Rattle.report.proofs.Laws.Tops.{top_next}
 use Rattle.report.proofs.tops.next_top.Goals as goal
 use Rattle.report.proofs.tops.next_top.Goals.{Start}
 

@@ -5,7 +5,7 @@ use native.Mathlib.Omega.{arith}
 use mir.Facts.{to_z-of_z}
 use Rattle.diagram.specs.Inner.Edges.{descend, root_of, PathReady}
 use Rattle.report.specs.Inner.Tops.{lowest_of, top_at}
-use Rattle.report.specs.Laws.Tops.{lowest_within, root_ready}
+use Rattle.report.proofs.Laws.Tops.{lowest_within, root_ready}
 use Rattle.report.proofs.tops.top_at.Goals as goal
 use Rattle.report.proofs.tops.top_at.Goals.{After-root_of-root}
 

@@ -7,7 +7,7 @@ use mir.Syntax.{w32}
 use mir.Facts.{to_z-of_z}
 use Rattle.image.specs.Inner.Evaluation.{card_read, result_of, result_so_far}
 use Rattle.image.specs.Run.{run_card}
-use Rattle.image.specs.Laws.Evaluating.{Evaluating, first_room, first_evaluating, cell_ahead, cell_passed, cell_takes, result_reached}
+use Rattle.image.proofs.Laws.Evaluating.{Evaluating, first_room, first_evaluating, cell_ahead, cell_passed, cell_takes, result_reached}
 use Rattle.runner.proofs.evaluation.evaluate.Goals as goal
 
 pub first_progress-progress-requires : goal.first_progress-progress-requires

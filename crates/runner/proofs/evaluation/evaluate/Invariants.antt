@@ -1,6 +1,6 @@
 use Rattle.image.specs.Inner.Evaluation.{card_read}
 use Rattle.image.specs.Run.{run_card}
-use Rattle.image.specs.Laws.Evaluating.{Evaluating}
+use Rattle.image.proofs.Laws.Evaluating.{Evaluating}
 use Rattle.runner.proofs.evaluation.evaluate.Given as goal
 
 abbrev pub invariant-loop-progress : goal.invariant-loop-progress

@@ -2,7 +2,7 @@
 use Prim.Native.Nat.{◌-◌}
 use native.Mathlib.Omega.{arith}
 use lib.Pow.{pow_pos}
-use Rattle.numbers.specs.Laws.Pieces.{shifted_one}
+use Rattle.numbers.proofs.Laws.Pieces.{shifted_one}
 use Rattle.image.specs.Run.{group_value}
 use Rattle.runner.proofs.evaluation.group_value.Goals as goal
 

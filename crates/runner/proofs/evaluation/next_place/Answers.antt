@@ -5,7 +5,7 @@ use native.Mathlib.Omega.{arith}
 use lib.ListN.{length}
 use mir.Facts.{Fits-of_lt}
 use Rattle.image.specs.Inner.Evaluation.{first_word, word_place, next_place}
-use Rattle.image.specs.Laws.Evaluating.{command_room, group_narrow}
+use Rattle.image.proofs.Laws.Evaluating.{command_room, group_narrow}
 use Rattle.runner.proofs.evaluation.next_place.Goals as goal
 use Rattle.runner.proofs.evaluation.next_place.Goals.{After-read_two-incoming, Start}
 

@@ -12,7 +12,7 @@ use Rattle.numbers.specs.Ranges.{most_variables}
 use Rattle.operands.specs.Bytes.{unsigned_at, signed_at}
 use Rattle.image.specs.Run.{group_value}
 use Rattle.image.specs.Inner.Evaluation.{group_at, first_word, word_place, word_ahead, cell_read}
-use Rattle.image.specs.Laws.Evaluating.{command_room, group_narrow}
+use Rattle.image.proofs.Laws.Evaluating.{command_room, group_narrow}
 use Rattle.runner.proofs.evaluation.read_cell.Goals as goal
 use Rattle.runner.proofs.evaluation.read_cell.Goals.{After-group_value-v, After-read_one-group, After-read_signed-weight, After-word_place-word, Start}
 

@@ -1,7 +1,7 @@
 -- `evaluation::variables` meets its contract.
 use mathlib.Core.Path.{◌∙◌}
 use native.Mathlib.Omega.{arith}
-use Rattle.image.specs.Laws.Evaluating.{first_room, variables_read}
+use Rattle.image.proofs.Laws.Evaluating.{first_room, variables_read}
 use Rattle.runner.proofs.evaluation.variables.Goals as goal
 
 pub read_one-requires : goal.read_one-requires

@@ -3,7 +3,7 @@ use Prim.Native.Nat.{◌+◌, ◌*◌, ◌%◌, ◌^◌, ◌<◌}
 use mathlib.Core.Path.{◌≡◌}
 use native.Mathlib.Omega.{arith}
 use mir.Facts.{Fits-of_lt}
-use Rattle.numbers.specs.Laws.Pieces.{shifted_one}
+use Rattle.numbers.proofs.Laws.Pieces.{shifted_one}
 use Rattle.image.specs.Inner.Evaluation.{word_place}
 use Rattle.runner.proofs.evaluation.word_place.Goals as goal
 use Rattle.runner.proofs.evaluation.word_place.Goals.{Start}

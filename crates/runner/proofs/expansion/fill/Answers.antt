@@ -10,11 +10,11 @@ use lib.Pow.{pow_pos}
 use lib.IntN.{ℤ, pos}
 use mir.Syntax.{w32}
 use mir.Facts.{Fits-of_lt, to_z-of_z}
-use Rattle.numbers.specs.Laws.Pieces.{shifted_one}
+use Rattle.numbers.proofs.Laws.Pieces.{shifted_one}
 use Rattle.image.specs.Inner.Evaluation.{card_read, group_at, first_word, CellThere, values_to}
 use Rattle.image.specs.Reader.{most_classes}
-use Rattle.image.specs.Laws.Evaluating.{first_room, variables_read, command_room, group_narrow}
-use Rattle.image.specs.Laws.Spreading.{AllBlocks, first_block, cell_there, blocks_fit, blocks_below, blocks_passed, all_values}
+use Rattle.image.proofs.Laws.Evaluating.{first_room, variables_read, command_room, group_narrow}
+use Rattle.image.proofs.Laws.Spreading.{AllBlocks, first_block, cell_there, blocks_fit, blocks_below, blocks_passed, all_values}
 use Rattle.runner.proofs.expansion.fill.Goals as goal
 use Rattle.runner.proofs.expansion.fill.Goals.{After-read_one-group, In-loop-left}
 

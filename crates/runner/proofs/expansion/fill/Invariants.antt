@@ -1,4 +1,4 @@
-use Rattle.image.specs.Laws.Spreading.{AllBlocks}
+use Rattle.image.proofs.Laws.Spreading.{AllBlocks}
 use Rattle.runner.proofs.expansion.fill.Given as goal
 
 abbrev pub invariant-loop-left : goal.invariant-loop-left

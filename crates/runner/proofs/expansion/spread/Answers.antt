@@ -12,11 +12,11 @@ use mir.Facts.{Fits-of_lt, to_z-of_z}
 use lib.Pow.{pow_pos}
 use lib.IntN.{ℤ, pos, ◌+ℤ◌}
 use Rattle.numbers.specs.Ranges.{most_variables}
-use Rattle.numbers.specs.Laws.Pieces.{shifted_one}
+use Rattle.numbers.proofs.Laws.Pieces.{shifted_one}
 use Rattle.operands.specs.Bytes.{unsigned_at, signed_at}
 use Rattle.image.specs.Inner.Evaluation.{word_place, block_word, block_class, block_value}
 use Rattle.image.specs.Reader.{most_classes}
-use Rattle.image.specs.Laws.Spreading.{Spread, spread_none, values_length, above_before, word_here, word_there_lem, value_here, value_small, spread_more, spread_all}
+use Rattle.image.proofs.Laws.Spreading.{Spread, spread_none, values_length, above_before, word_here, word_there_lem, value_here, value_small, spread_more, spread_all}
 use Rattle.runner.proofs.expansion.spread.Goals as goal
 use Rattle.runner.proofs.expansion.spread.Goals.{After-read_signed, After-word_place-word, In-loop-y, Start}
 

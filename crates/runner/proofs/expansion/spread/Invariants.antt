@@ -1,4 +1,4 @@
-use Rattle.image.specs.Laws.Spreading.{Spread}
+use Rattle.image.proofs.Laws.Spreading.{Spread}
 use Rattle.runner.proofs.expansion.spread.Given as goal
 
 abbrev pub invariant-loop-y : goal.invariant-loop-y

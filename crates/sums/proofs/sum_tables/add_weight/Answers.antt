@@ -12,9 +12,9 @@ use mir.Syntax.{w32}
 use mir.Val.{SFits, of_z, to_z}
 use mir.Facts.{to_z-of_z, Fits-of_lt}
 use Rattle.numbers.specs.Lists.{overwritten}
-use Rattle.numbers.specs.Laws.Bounds.{value_mag}
-use Rattle.numbers.specs.Laws.Machine.{mag_add}
-use Rattle.sums.specs.Laws.Filling.{changed_none, changed_length, changed_more, next_before}
+use Rattle.numbers.proofs.Laws.Bounds.{value_mag}
+use Rattle.numbers.proofs.Laws.Machine.{mag_add}
+use Rattle.sums.proofs.Laws.Filling.{changed_none, changed_length, changed_more, next_before}
 use Rattle.sums.proofs.sum_tables.add_weight.Goals as goal
 use Rattle.sums.proofs.sum_tables.add_weight.Goals.{After-value-1, In-loop-x}
 

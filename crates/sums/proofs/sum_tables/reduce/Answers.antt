@@ -11,8 +11,8 @@ use mir.Syntax.{w32}
 use mir.Val.{SFits, of_z, to_z}
 use mir.Facts.{to_z-of_z, Fits-of_lt}
 use Rattle.sums.specs.Sums.{remainder_by}
-use Rattle.sums.specs.Laws.Remainders.{remainder_below}
-use Rattle.sums.specs.Laws.Filling.{changed_none, changed_length, changed_more, changed_all, next_behind}
+use Rattle.sums.proofs.Laws.Remainders.{remainder_below}
+use Rattle.sums.proofs.Laws.Filling.{changed_none, changed_length, changed_more, changed_all, next_behind}
 use Rattle.sums.proofs.sum_tables.reduce.Goals as goal
 use Rattle.sums.proofs.sum_tables.reduce.Goals.{After-power-modulus, In-loop-x}
 

@@ -10,7 +10,7 @@ use mir.Syntax.{w32}
 use mir.Val.{SFits, of_z, to_z}
 use mir.Facts.{to_z-of_z, to_z_pos}
 use Rattle.sums.specs.Sums.{remainder_by}
-use Rattle.sums.specs.Laws.Remainders.{quotient_small, remainder_below, rem_not_negative, rem_negative}
+use Rattle.sums.proofs.Laws.Remainders.{quotient_small, remainder_below, rem_not_negative, rem_negative}
 use Rattle.sums.proofs.sum_tables.remainder_of.Goals as goal
 use Rattle.sums.proofs.sum_tables.remainder_of.Goals.{Start, Then-rest-lt0}
 

@@ -7,7 +7,7 @@ use lib.IntN.{pos}
 use mir.Syntax.{w32}
 use mir.Val.{of_z, to_z}
 use mir.Facts.{to_z-of_z, Fits-of_lt}
-use Rattle.sums.specs.Laws.Filling.{first_sum, may_double, doubled, all_sums}
+use Rattle.sums.proofs.Laws.Filling.{first_sum, may_double, doubled, all_sums}
 use Rattle.sums.proofs.sum_tables.write_sums.Goals as goal
 use Rattle.sums.proofs.sum_tables.write_sums.Goals.{After-add_weight-arg-in-loop-j-1}
 

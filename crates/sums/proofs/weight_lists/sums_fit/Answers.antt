@@ -14,12 +14,12 @@ use mir.Val.{SFits, of_z, to_z}
 use mir.Facts.{to_z-of_z, Fits-of_lt}
 use Rattle.numbers.specs.Lists.{every, keep, exact_sum}
 use Rattle.numbers.specs.Ranges.{is_value}
-use Rattle.numbers.specs.Laws.Bounds.{value_mag}
-use Rattle.numbers.specs.Laws.Lists.{every_at}
-use Rattle.numbers.specs.Laws.Machine.{mag_add}
+use Rattle.numbers.proofs.Laws.Bounds.{value_mag}
+use Rattle.numbers.proofs.Laws.Lists.{every_at}
+use Rattle.numbers.proofs.Laws.Machine.{mag_add}
 use Rattle.sums.specs.Sums.{least_sum, greatest_sum}
-use Rattle.sums.specs.Laws.Extremes.{values_by_extremes, least_more, least_still, greatest_more, greatest_still, least_small, greatest_small}
-use Rattle.sums.specs.Laws.Summable.{first_values}
+use Rattle.sums.proofs.Laws.Extremes.{values_by_extremes, least_more, least_still, greatest_more, greatest_still, least_small, greatest_small}
+use Rattle.sums.proofs.Laws.Summable.{first_values}
 use Rattle.sums.proofs.weight_lists.sums_fit.Goals as goal
 use Rattle.sums.proofs.weight_lists.sums_fit.Goals.{After-is_value, After-loop-j, After-weight-1, then-weight-lt0, else-weight-lt0}
 

@@ -9,10 +9,10 @@ use mir.Syntax.{w32}
 use mir.Facts.{to_z-of_z, sfits_lit}
 use borrow.Author.Rules.{sfits_of}
 use Rattle.numbers.specs.Ranges.{within}
-use Rattle.numbers.specs.Laws.Machine.{same_bits}
+use Rattle.numbers.proofs.Laws.Machine.{same_bits}
 use Rattle.diagram.specs.Records.{record_size}
 use Rattle.diagram.specs.Walk.{child_fits, variable_at}
-use Rattle.diagram.specs.Laws.Checks.{counted, cast_natural, child_outside, child_terminal, child_record, child_recorded}
+use Rattle.diagram.proofs.Laws.Checks.{counted, cast_natural, child_outside, child_terminal, child_record, child_recorded}
 use Rattle.walker.proofs.edges.child_fits.Goals as goal
 use Rattle.walker.proofs.edges.child_fits.Goals.{After-is_below, Else-child-eq0, Else-not-is_below}
 

@@ -9,7 +9,7 @@ use borrow.Author.Rules.{sfits_of}
 use Rattle.numbers.specs.Ranges.{within, is_weight}
 use Rattle.diagram.specs.Records.{record_size}
 use Rattle.diagram.specs.Walk.{child_fits, variable_at, low_at, high_at, weight_at}
-use Rattle.diagram.specs.Laws.Checks.{variable_unfit, low_unfit, high_unfit, weight_left}
+use Rattle.diagram.proofs.Laws.Checks.{variable_unfit, low_unfit, high_unfit, weight_left}
 use Rattle.walker.proofs.edges.edges_fit.Goals as goal
 use Rattle.walker.proofs.edges.edges_fit.Goals.{After-child_fits, After-child_fits-2, After-is_below}
 

@@ -6,8 +6,8 @@ use lib.Dec.{ltb}
 use lib.IntN.{pos, nat_abs}
 use lib.Signed.{lt_z}
 use mir.Facts.{to_z-of_z}
-use Rattle.numbers.specs.Laws.Machine.{not_negative}
-use Rattle.diagram.specs.Laws.Checks.{under_range, below_count, cast_natural}
+use Rattle.numbers.proofs.Laws.Machine.{not_negative}
+use Rattle.diagram.proofs.Laws.Checks.{under_range, below_count, cast_natural}
 use Rattle.walker.proofs.edges.is_below.Goals as goal
 use Rattle.walker.proofs.edges.is_below.Goals.{Else-number-lt0}
 

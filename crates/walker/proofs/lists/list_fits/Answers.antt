@@ -5,7 +5,7 @@ use borrow.Author.Tests.{eq-eqb, ne_eqb, le-leb, lt-leb}
 use Rattle.diagram.specs.Build.{node_room}
 use Rattle.diagram.specs.Records.{record_size}
 use Rattle.diagram.specs.Walk.{list_fits}
-use Rattle.diagram.specs.Laws.Checks.{variables_range}
+use Rattle.diagram.proofs.Laws.Checks.{variables_range}
 use Rattle.walker.proofs.lists.list_fits.Goals as goal
 
 pub returns-then-records-ne0 : goal.returns-then-records-ne0

@@ -4,8 +4,8 @@ use mathlib.Core.Bool.{true}
 use native.Mathlib.Omega.{arith}
 use lib.IntN.{nat_abs}
 use Rattle.diagram.specs.Walk.{edges_fit, high_at}
-use Rattle.diagram.specs.Laws.Checks.{variables_range, child_node, parts_of_edges, edges_unfit, range_left}
-use Rattle.diagram.specs.Laws.NodeRanges.{range_small, range_judged}
+use Rattle.diagram.proofs.Laws.Checks.{variables_range, child_node, parts_of_edges, edges_unfit, range_left}
+use Rattle.diagram.proofs.Laws.NodeRanges.{range_small, range_judged}
 use Rattle.walker.proofs.lists.record_fits.Goals as goal
 use Rattle.walker.proofs.lists.record_fits.Goals.{Else-not-edges_fit}
 

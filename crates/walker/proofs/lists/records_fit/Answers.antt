@@ -10,7 +10,7 @@ use Rattle.numbers.specs.Lists.{numbers_from, every}
 use Rattle.diagram.specs.Records.{record_size}
 use Rattle.diagram.specs.Walk.{record_fits, record_count}
 use Rattle.diagram.specs.Inner.Edges.{EarlierPass}
-use Rattle.diagram.specs.Laws.Checks.{passes_here, fails_here, none_left}
+use Rattle.diagram.proofs.Laws.Checks.{passes_here, fails_here, none_left}
 use Rattle.walker.proofs.lists.records_fit.Goals as goal
 
 -- One record more passed.

@@ -7,7 +7,7 @@ use borrow.Author.Rules.{sfits_of}
 use Rattle.diagram.specs.Records.{record_size}
 use Rattle.diagram.specs.Walk.{least_at, greatest_at}
 use Rattle.diagram.specs.Inner.Edges.{Recorded}
-use Rattle.diagram.specs.Laws.NodeRanges.{range_terminal, range_record}
+use Rattle.diagram.proofs.Laws.NodeRanges.{range_terminal, range_record}
 use Rattle.walker.proofs.node_ranges.range_at.Goals as goal
 use Rattle.walker.proofs.node_ranges.range_at.Goals.{Else-k-eq0}
 

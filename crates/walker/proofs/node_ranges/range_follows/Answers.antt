@@ -11,7 +11,7 @@ use mir.Val.{of_z}
 use borrow.Author.Rules.{sfits_of}
 use borrow.Author.Tests.{eq-eqb, ne_eqb}
 use Rattle.numbers.specs.Ranges.{eq_z}
-use Rattle.numbers.specs.Laws.Machine.{bits_equal}
+use Rattle.numbers.proofs.Laws.Machine.{bits_equal}
 use Rattle.diagram.specs.Records.{record_size}
 use Rattle.diagram.specs.Walk.{number_at, least_at, greatest_at}
 use Rattle.diagram.specs.Inner.Edges.{range_from, range_follows}

@@ -10,13 +10,13 @@ use mir.Val.{SFits, of_z, to_z}
 use mir.Facts.{to_z-of_z}
 use borrow.Author.Rules.{sfits_of}
 use Rattle.numbers.specs.Ranges.{lesser, greater}
-use Rattle.numbers.specs.Laws.Bounds.{weight_mag}
-use Rattle.numbers.specs.Laws.Machine.{mag_add}
+use Rattle.numbers.proofs.Laws.Bounds.{weight_mag}
+use Rattle.numbers.proofs.Laws.Machine.{mag_add}
 use Rattle.diagram.specs.Records.{record_size}
 use Rattle.diagram.specs.Walk.{number_at, low_at, high_at, weight_at}
 use Rattle.diagram.specs.Inner.Edges.{range_at, range_by, range_from}
 use Rattle.diagram.specs.declared.Range.{Range}
-use Rattle.diagram.specs.Laws.Checks.{child_node, cast_natural}
+use Rattle.diagram.proofs.Laws.Checks.{child_node, cast_natural}
 use Rattle.walker.proofs.node_ranges.range_from.Goals as goal
 use Rattle.walker.proofs.node_ranges.range_from.Goals.{After-number_at, After-number_at-2, After-number_at-weight}
 

@@ -8,12 +8,12 @@ use mir.Val.{of_z}
 use mir.Facts.{to_z-of_z}
 use borrow.Author.Rules.{sfits_of}
 use borrow.Author.Tests.{eq-eqb, ne_eqb}
-use Rattle.numbers.specs.Laws.Machine.{same_bits}
+use Rattle.numbers.proofs.Laws.Machine.{same_bits}
 use Rattle.diagram.specs.Records.{record_size}
 use Rattle.diagram.specs.Walk.{variable_at, low_at, high_at, weight_at, bit_set}
 use Rattle.diagram.specs.Inner.Edges.{Recorded}
-use Rattle.diagram.specs.Laws.Checks.{cast_natural, child_node}
-use Rattle.diagram.specs.Laws.Edges.{edge_none, edge_later, edge_high, edge_low}
+use Rattle.diagram.proofs.Laws.Checks.{cast_natural, child_node}
+use Rattle.diagram.proofs.Laws.Edges.{edge_none, edge_later, edge_high, edge_low}
 use Rattle.walker.proofs.paths.edge_at.Goals as goal
 use Rattle.walker.proofs.paths.edge_at.Goals.{After-number_at, Else-k-eq0, Else-number_at-i}
 

@@ -11,7 +11,7 @@ use mir.Facts.{to_z-of_z, Fits-of_lt}
 use borrow.Author.Rules.{sfits_of}
 use Rattle.diagram.specs.Inner.Edges.{edge_at, descend, PathReady}
 use Rattle.diagram.specs.declared.Waypoint.{Waypoint}
-use Rattle.diagram.specs.Laws.Edges.{further, descend_more, descend_none, ready_further}
+use Rattle.diagram.proofs.Laws.Edges.{further, descend_more, descend_none, ready_further}
 use Rattle.walker.proofs.paths.walk_on.Goals as goal
 use Rattle.walker.proofs.paths.walk_on.Goals.{After-edge_at-edge}
 

@@ -1,0 +1,93 @@
+-- What the contracts of Compile, Run and Expand say together.
+use Rattle.std.specs.Prelude.{ℕ, ◌^◌, ◌≤◌, ◌≡◌, List, length, take, ltb, eqb, ℤ, pos}
+use Rattle.std.proofs.Math.Path.{sym, ap}
+use Rattle.std.proofs.Common.{◌∙◌, arith, length-append}
+use Rattle.std.proofs.Math.ListN.{get_or}
+use borrow.Author.Tests.{ltb-true, ltb-false, eqb-true, eqb-false}
+use Rattle.numbers.specs.Answers.{accepted, refused, unless, map_answer, and_then, buffer_after}
+use Rattle.numbers.proofs.Laws.Bools.{yes_or_no}
+use Rattle.image.specs.Commands.{card_of}
+use Rattle.image.specs.Run.{run, ran, expand, expand_buffer, expanded, Expands}
+use Rattle.image.proofs.Theorems.{run_turns_x_away, expand_turns_length_away}
+use Rattle.image.specs.declared.Expanded.{Expanded}
+use Rattle.image.specs.declared.Ran.{Ran}
+use Rattle.cascade.specs.Compile.{ImageSummary, image_summary, compile_answer, compile_buffer, compiled_image, outcome, Compiles}
+use Rattle.cascade.proofs.Theorems.{compiled_runs, compiled_expands, compiled_bits}
+use Rattle.cascade.proofs.Laws.Admitting.{compile_admits, report_admits}
+use Rattle.cascade.specs.declared.Compiled.{Compiled}
+use Rattle.cascade.specs.declared.Outcome.TheVariants.{Image, Refused}
+use Rattle.demands.specs.Clients.{run_table, RunsTable, expand_table, ExpandsTable}
+
+module _ (n : ℕ) (table : List ℤ) (limit : ℕ) (buffer : List ℕ) (r : ImageSummary) (compiled : compile_answer n table limit (length buffer) ≡ accepted r) where
+  -- The compiled image lies within the buffer.
+  pub image_inside : r.image_length ≤ length (compile_buffer n table limit buffer)
+  unfolding compile_buffer image_summary
+  image_inside =
+      let q = report_admits n table limit (length buffer) r compiled in
+      let c = compile_admits n table limit (length buffer) q.0 q.1.0 in
+      rw (q.1.1, q.1.0, length-append) (omega arith)
+
+  -- Run on it, for every X.
+  pub image_run : (x : ℕ) → run (compiled_image r (compile_buffer n table limit buffer)) x ≡ unless (ltb x (2 ^ n)) 7 (accepted (record { value = get_or table x (pos 0); words = r.planned.cells }))
+  unfolding card_of
+  image_run x =
+      yes_or_no (ltb x (2 ^ n))
+      (λ l. compiled_runs n table limit buffer r compiled x (ltb-true x (2 ^ n) l) ∙ rw l)
+      (λ l. (run_turns_x_away _ x).0 (_, (compiled_bits n table limit buffer r compiled).1, ltb-false x (2 ^ n) l) ∙ rw l)
+
+  -- Expand on it, for every buffer.
+  pub image_expand : (places : ℕ) → expand (compiled_image r (compile_buffer n table limit buffer)) places ≡ unless (eqb places (2 ^ n)) 2 (accepted table)
+  unfolding card_of
+  image_expand places =
+      yes_or_no (eqb places (2 ^ n))
+      (λ l. ap (expand (compiled_image r (compile_buffer n table limit buffer))) (eqb-true places (2 ^ n) l) ∙ compiled_expands n table limit buffer r compiled ∙ rw l)
+      (λ l. (expand_turns_length_away _ places).0 (_, (compiled_bits n table limit buffer r compiled).1, eqb-false places (2 ^ n) l) ∙ rw l)
+
+module _ (n : ℕ) (table : List ℤ) (limit : ℕ) (buffer : List ℕ) (c : Compiled) (buffer' : List ℕ) (compiles : Compiles n table limit buffer c buffer') where
+  -- Compile gave an image.
+  module _ (bytes nodes cells bits : ℕ) (given : c.outcome ≡ Image bytes nodes cells bits) where
+    abbrev reported : ImageSummary
+    reported = record { image_length = bytes; nodes = nodes; planned = record { cells = cells; bits = bits } }
+
+    known : compile_answer n table limit (length buffer) ≡ accepted reported
+    unfolding outcome
+    known = sym compiles.answered ∙ ap outcome given
+
+    pub front_inside : bytes ≤ length buffer'
+    front_inside = rw compiles.left (image_inside n table limit buffer reported known)
+
+    front : take bytes buffer' ≡ compiled_image reported (compile_buffer n table limit buffer)
+    unfolding compiled_image
+    front = ap (take bytes) compiles.left
+
+    pub run_gives : (x : ℕ) (answer : Ran) → ran answer ≡ run (take bytes buffer') x → RunsTable n table limit buffer x answer buffer'
+    unfolding run_table
+    run_gives x answer e = record {
+      answered = e ∙ ap (λ image. run image x) front ∙ image_run n table limit buffer reported known x ∙ sym (ap (λ a. and_then a (λ r. unless (ltb x (2 ^ n)) 7 (accepted (record { value = get_or table x (pos 0); words = r.planned.cells })))) known);
+      left = compiles.left;
+    }
+
+    pub expand_gives : (values : List ℤ) (answer : Expanded) (values' : List ℤ) → Expands (take bytes buffer') values answer values' → ExpandsTable n table limit buffer values answer buffer' values'
+    unfolding expand_table expand_buffer
+    expand_gives values answer values' e =
+        let same : expand (take bytes buffer') (length values) ≡ and_then (compile_answer n table limit (length buffer)) (λ r. unless (eqb (length values) (2 ^ n)) 2 (accepted table)) =
+        (ap (λ image. expand image (length values)) front ∙ image_expand n table limit buffer reported known (length values) ∙ sym (ap (λ a. and_then a (λ r. unless (eqb (length values) (2 ^ n)) 2 (accepted table))) known)) in
+        record {
+          answered = e.answer ∙ ap (map_answer (λ t. tt)) same;
+          left = compiles.left;
+          written = e.written ∙ ap (λ a. buffer_after a (λ t. t) values) same;
+        }
+
+  -- Compile refused.
+  module _ (number : ℕ) (given : c.outcome ≡ Refused number) where
+    turned : compile_answer n table limit (length buffer) ≡ refused number
+    unfolding outcome
+    turned = sym compiles.answered ∙ ap outcome given
+
+    pub run_refused : (x : ℕ) (answer : Ran) → ran answer ≡ refused number → RunsTable n table limit buffer x answer buffer'
+    unfolding run_table
+    run_refused x answer e = record { answered = rw turned e; left = compiles.left }
+
+    pub expand_refused : (values : List ℤ) (answer : Expanded) → expanded answer ≡ refused number → ExpandsTable n table limit buffer values answer buffer' values
+    unfolding expand_table
+    expand_refused values answer e = record { answered = rw turned e; left = compiles.left; written = rw turned }

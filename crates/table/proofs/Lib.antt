@@ -1,0 +1,2 @@
+-- What is proved of all that, which proofs cite.
+pub mod Laws

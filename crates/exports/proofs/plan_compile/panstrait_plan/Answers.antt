@@ -1,5 +1,4 @@
--- `exports_cascade::panstrait_plan` meets its contract.
-use borrow.Author.Rules.{rules}
+-- `panstrait_plan` meets its contract.
 use Rattle.exports.specs.Laws.Planned.{plan_given, plan_refused}
 use Rattle.exports.proofs.plan_compile.panstrait_plan.Goals as goal
 

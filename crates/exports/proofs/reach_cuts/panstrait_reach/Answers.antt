@@ -1,5 +1,4 @@
--- `exports_reach::panstrait_reach` meets its contract.
-use borrow.Author.Rules.{rules}
+-- `panstrait_reach` meets its contract.
 use Rattle.exports.specs.Laws.ReachGiven.{reach_given, reach_refused}
 use Rattle.exports.proofs.reach_cuts.panstrait_reach.Goals as goal
 

@@ -1,5 +1,4 @@
--- `exports_image::panstrait_run` meets its contract: Run's answer comes back.
-use borrow.Author.Rules.{rules}
+-- `panstrait_run` meets its contract: Run's answer comes back.
 use Rattle.exports.specs.Laws.RanGiven.{same_given}
 use Rattle.exports.specs.ImageGiven.{RunGiven}
 use Rattle.exports.proofs.run_expand.panstrait_run.Goals as goal

@@ -1,4 +1,4 @@
--- `run_results::hand_back` meets its contract: the answer that the enum stands for comes back.
+-- `hand_back` meets its contract: the answer that the enum stands for comes back.
 use mathlib.Core.Path.{sym, ap, subst}
 use mir.Syntax.{w32}
 use mir.Facts.{to_z-of_z}
@@ -13,10 +13,10 @@ pub returns-in-Value : goal.returns-in-Value
 unfolding ran
 returns-in-Value c =
     let a = c.args in
-    let value = c.in-Value.FIELDS.0 in
-    let words = c.in-Value.FIELDS.1.0 in
+    let value = c.in-Value.found in
+    let words = c.in-Value.read in
     subst (λ v. RanGiven (ran a.answer) a.value.now a.words.now 0 v words)
-    (sym (to_z-of_z {w = w32} (record { sfits = c.in-Value.FIELDS.1 })))
+    (sym (to_z-of_z {w = w32} {z = value} (search rules)))
     (ran_given a.value.now a.words.now (accepted (record { value = value; words = words })) (ap ran (sym c.in-Value.is)))
 
 pub returns-in-Refused : goal.returns-in-Refused

@@ -1,4 +1,4 @@
--- `exports_classes::sizes::rows_have` meets its contract: each length is compared in turn.
+-- `sizes::rows_have` meets its contract: each length is compared in turn.
 use mathlib.Core.Path.{◌≡◌, refl}
 use mathlib.Core.Bool.{Bool, true, false, ◌&&◌}
 use borrow.Author.Tests.{eq-eqb, ne_eqb}

@@ -1,17 +1,12 @@
--- `exports_classes::sizes::sizes_fit` meets its contract: each size is tested in turn, then the rows.
-use Prim.Native.Nat.{◌+◌, ◌^◌}
+-- `sizes::sizes_fit` meets its contract: each size is tested in turn, then the rows.
+use Prim.Native.Nat.{◌^◌}
 use mathlib.Core.Path.{sym, ◌∙◌, ap}
 use native.Mathlib.Numerals.{add-one}
-use lib.Pow.{pow_pos}
-use borrow.Author.Rules.{rules}
 use borrow.Author.Tests.{le-leb, lt-leb, eq-eqb, ne_eqb}
 use Rattle.numbers.specs.Ranges.{most_variables}
 use Rattle.blocks.specs.Rows.{cut_place}
 use Rattle.exports.specs.Classing.{sizes_fit}
 use Rattle.exports.proofs.sizes.sizes_fit.Goals as goal
-
-pub overflow_sub-power : goal.overflow_sub-power
-overflow_sub-power c = rw c.power-then-cuts-n.ensures (pow_pos (c.args.n + 1))
 
 -- All tests before the rows passed.
 pub returns-then-cuts-n : goal.returns-then-cuts-n

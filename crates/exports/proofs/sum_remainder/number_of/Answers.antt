@@ -1,6 +1,5 @@
--- `exports_sums::number_of` meets its contract.
+-- `number_of` meets its contract.
 use mathlib.Core.Path.{sym, ap}
-use borrow.Author.Rules.{rules}
 use Rattle.exports.specs.Results.{result_of}
 use Rattle.sums.specs.Sums.{summed}
 use Rattle.exports.proofs.sum_remainder.number_of.Goals as goal

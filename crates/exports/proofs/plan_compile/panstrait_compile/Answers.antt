@@ -1,11 +1,5 @@
-<<<<<<< HEAD
--- `exports_cascade::panstrait_compile` meets its contract.
-use borrow.Author.Rules.{rules}
-use Rattle.exports.proofs.Laws.Planned.{compile_given, compile_refused}
-=======
 -- `panstrait_compile` meets its contract.
 use Rattle.exports.proofs.Laws.Planned.{compile_given, compile_refused}
->>>>>>> 6196ac36242495f96e5e81b8444f41599ac89cdb
 use Rattle.exports.proofs.plan_compile.panstrait_compile.Goals as goal
 
 pub returns-in-Image : goal.returns-in-Image

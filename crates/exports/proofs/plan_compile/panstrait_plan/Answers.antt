@@ -1,11 +1,5 @@
-<<<<<<< HEAD
--- `exports_cascade::panstrait_plan` meets its contract.
-use borrow.Author.Rules.{rules}
-use Rattle.exports.proofs.Laws.Planned.{plan_given, plan_refused}
-=======
 -- `panstrait_plan` meets its contract.
 use Rattle.exports.proofs.Laws.Planned.{plan_given, plan_refused}
->>>>>>> 6196ac36242495f96e5e81b8444f41599ac89cdb
 use Rattle.exports.proofs.plan_compile.panstrait_plan.Goals as goal
 
 pub returns-in-Grouping : goal.returns-in-Grouping

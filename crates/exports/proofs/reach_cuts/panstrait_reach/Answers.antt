@@ -1,11 +1,5 @@
-<<<<<<< HEAD
--- `exports_reach::panstrait_reach` meets its contract.
-use borrow.Author.Rules.{rules}
-use Rattle.exports.proofs.Laws.ReachGiven.{reach_given, reach_refused}
-=======
 -- `panstrait_reach` meets its contract.
 use Rattle.exports.proofs.Laws.ReachGiven.{reach_given, reach_refused}
->>>>>>> 6196ac36242495f96e5e81b8444f41599ac89cdb
 use Rattle.exports.proofs.reach_cuts.panstrait_reach.Goals as goal
 
 pub returns-in-Cuts : goal.returns-in-Cuts

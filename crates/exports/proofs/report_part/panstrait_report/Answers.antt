@@ -6,12 +6,7 @@ use mir.Facts.{to_z-of_z}
 use borrow.Author.Rules.{rules}
 use Rattle.numbers.specs.Answers.{accepted, refused}
 use Rattle.report.specs.Report.{report, reported}
-<<<<<<< HEAD
-use Rattle.report.specs.declared.Reported.{Reported}
 use Rattle.exports.proofs.Laws.ReportGiven.{report_given}
-=======
-use Rattle.exports.proofs.Laws.ReportGiven.{report_given}
->>>>>>> 6196ac36242495f96e5e81b8444f41599ac89cdb
 use Rattle.exports.proofs.report_part.panstrait_report.Goals as goal
 
 pub returns-in-Report : goal.returns-in-Report

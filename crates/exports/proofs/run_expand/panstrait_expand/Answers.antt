@@ -1,17 +1,6 @@
-<<<<<<< HEAD
--- `exports_image::panstrait_expand` meets its contract: the answer that Expand's enum stands for comes back.
-use mathlib.Core.Path.{◌≡◌, subst}
-use borrow.Author.Rules.{rules}
-use Rattle.image.specs.Run.{expanded, Expands}
-use Rattle.image.specs.declared.Expanded.{Expanded}
-use Rattle.exports.specs.Results.{result_of}
-use Rattle.exports.specs.ImageGiven.{ExpandGiven}
-use Rattle.exports.proofs.Laws.ImageGiven.{expand_given}
-=======
 -- `panstrait_expand` meets its contract: the answer that Expand's enum stands for comes back.
 use Rattle.image.specs.Run.{expanded}
 use Rattle.exports.proofs.Laws.ImageGiven.{expand_given}
->>>>>>> 6196ac36242495f96e5e81b8444f41599ac89cdb
 use Rattle.exports.proofs.run_expand.panstrait_expand.Goals as goal
 
 pub returns-in-Table : goal.returns-in-Table

@@ -10,7 +10,7 @@ use Rattle.demands.proofs.clients.expand_table.Goals as goal
 use Rattle.demands.proofs.clients.expand_table.Goals.{In-Image}
 
 -- The image's length is within the buffer.
-inside : (c : In-Image) → c.in-Image.length ≤ length c.compile-compiled.new.1.1.1.0
+inside : (c : In-Image) → c.in-Image.length ≤ length c.compile-compiled.new.image
 inside c =
     let a = c.args in
     front_inside a.n a.table.now a.limit a.image.now c.compile-compiled.result _ c.compile-compiled.ensures _ _ _ _ c.in-Image.is

@@ -1,5 +1,5 @@
--- `case_cascades::plan` meets its contract: what Plan answered decides.
-use Rattle.std.proofs.Common.{◌≡◌, ◌&&◌, List, ℤ, sym, ap, ◌∙◌, rules}
+-- `cascades::plan` meets its contract: what Plan answered decides.
+use Rattle.std.proofs.Common.{◌≡◌, ◌&&◌, List, ℤ, sym, ap, ◌∙◌}
 use mathlib.Core.List.{flat_map}
 use Rattle.cascade.specs.Plan.{judgement}
 use Rattle.cascade.specs.Rows.{cell_row}
@@ -16,7 +16,7 @@ module _ (c : After-plan-planned) where
   numbers = c.args.numbers.now
 
   judged : plan_passes numbers c.args.table.now c.args.sizes.now c.args.cells.now ≡ (verdict_is numbers (judgement c.plan-planned.result.verdict) && (sizes_are c.plan-planned.result.sizes c.args.sizes.now && sizes_are (flat_map cell_row c.plan-planned.result.cells) c.args.cells.now))
-  judged = plan_judged numbers c.args.table.now c.size_at-n.ensures.0 c.size_at-limit.ensures.0 c.args.sizes.now c.args.cells.now c.plan-planned.result c.plan-planned.ensures
+  judged = plan_judged numbers c.args.table.now c.size_at-n.ensures.value c.size_at-limit.ensures.value c.args.sizes.now c.args.cells.now c.plan-planned.result c.plan-planned.ensures
 
 pub returns-else-verdict_is : goal.returns-else-verdict_is
 returns-else-verdict_is c = c.if-verdict_is.false ∙ sym (judged (goal.at.returns-else-verdict_is c).After-plan-planned ∙ failed _ (sym c.verdict_is.ensures ∙ c.if-verdict_is.false))

@@ -1,5 +1,5 @@
--- `case_cascades::verdict_is` meets its contract.
-use Rattle.std.proofs.Common.{eqb, sym, ap, ◌∙◌, rules}
+-- `cascades::verdict_is` meets its contract.
+use Rattle.std.proofs.Common.{eqb, sym, ap, ◌∙◌}
 use Rattle.cascade.specs.Plan.{judgement}
 use Rattle.cases.specs.Rows.{two_sizes_are, answer_is}
 use Rattle.cases.specs.CascadeCases.{verdict_is}
@@ -15,4 +15,4 @@ unfolding verdict_is answer_is judgement
 returns-in-Refused c =
     sym
     (ap (λ v. verdict_is c.args.numbers.now (judgement v)) c.in-Refused.is
-    ∙ ap (λ k. eqb k c.in-Refused.number) (sym c.size_at.ensures.0))
+    ∙ ap (λ k. eqb k c.in-Refused.number) (sym c.size_at.ensures.value))

@@ -1,11 +1,8 @@
 -- `case_lines::behind_line` meets its contract. The loop's invariant: no newline up to the place.
-use Rattle.std.proofs.Common.{◌-◌, length, refl, rules, eq-eqb, ne_eqb}
+use Rattle.std.proofs.Common.{eq-eqb, ne_eqb}
 use Rattle.decimal.specs.Words.{is_newline}
-use Rattle.cases.proofs.Laws.Text.{LinePassed, newline_here, line_on, line_over}
+use Rattle.cases.proofs.Laws.Text.{newline_here, line_on, line_over}
 use Rattle.cases.proofs.case_lines.behind_line.Goals as goal
-
-pub loop-at-init : goal.loop-at-init
-loop-at-init c = record { inside = c.requires; same = refl }
 
 pub returns-then-text-at-eq10 : goal.returns-then-text-at-eq10
 unfolding is_newline

@@ -1,6 +1,7 @@
--- `case_diagrams::walk` meets its contract, number by number.
+-- `diagrams::walk` meets its contract, number by number.
 use mir.Syntax.{w32}
 use Rattle.std.proofs.Common.{◌≡◌, eqb, get_or, pos, sym, ap, ◌∙◌, ap₂, to_z-of_z, rules, ne_eqb}
+use borrow.Author.Rules.{sfits_of}
 use Rattle.numbers.specs.Ranges.{eq_z}
 use Rattle.diagram.specs.Walk.{walk, walked}
 use Rattle.diagram.specs.declared.Walked.{Walked}
@@ -20,14 +21,14 @@ module _ (c : After-walk) where
       (sym
       (sym (ap walked e)
       ∙ c.walk.ensures
-      ∙ ap₂ (λ k z. walk k z records c.size_at-x.result) c.size_at-n.ensures.0 (to_z-of_z {w = w32} (record { sfits = c.number_at-offset.ok }) ∙ c.number_at-offset.ensures)
-      ∙ ap (walk _ _ records) c.size_at-x.ensures.0))
+      ∙ ap₂ (λ k z. walk k z records c.size_at-x.result) c.size_at-n.ensures.value (to_z-of_z {w = w32} (sfits_of c.number_at-offset.type_inv) ∙ c.number_at-offset.ensures)
+      ∙ ap (walk _ _ records) c.size_at-x.ensures.value))
 
 pub returns-else-refusal-eq0 : goal.returns-else-refusal-eq0
 unfolding answer_is walked
 returns-else-refusal-eq0 c =
     let w = (goal.at.returns-else-refusal-eq0 c).After-walk in
-    ne_eqb _ _ c.if-refusal-eq0.false ∙ sym (judged w _ c.in-Value.is ∙ failed _ (not_size 0 c.size_at-refusal.ensures.0 c.if-refusal-eq0.false))
+    ne_eqb _ _ c.if-refusal-eq0.false ∙ sym (judged w _ c.in-Value.is ∙ failed _ (not_size 0 c.size_at-refusal.ensures.value c.if-refusal-eq0.false))
 
 pub returns-then-refusal-eq0 : goal.returns-then-refusal-eq0
 unfolding answer_is walked
@@ -35,11 +36,11 @@ returns-then-refusal-eq0 c =
     let w = (goal.at.returns-then-refusal-eq0 c).After-walk in
     sym
     (judged w _ c.in-Value.is
-    ∙ passed _ (is_size 0 c.size_at-refusal.ensures.0 c.if-refusal-eq0.true)
-    ∙ sym (c.is_at.ensures ∙ ap (λ z. eq_z z (get_or c.args.numbers.now 5 (pos 0))) (to_z-of_z {w = w32} (record { sfits = c.in-Value.FIELDS.1 }))))
+    ∙ passed _ (is_size 0 c.size_at-refusal.ensures.value c.if-refusal-eq0.true)
+    ∙ sym (c.is_at.ensures ∙ ap (λ z. eq_z z (get_or c.args.numbers.now 5 (pos 0))) (to_z-of_z {w = w32} {z = c.in-Value.value} (record { sfits = search rules }))))
 
 pub returns-in-Refused : goal.returns-in-Refused
 unfolding answer_is walked
 returns-in-Refused c =
     let w = (goal.at.returns-in-Refused c).After-walk in
-    sym (judged w _ c.in-Refused.is ∙ ap (λ k. eqb k c.in-Refused.number) (sym c.size_at-refusal.ensures.0))
+    sym (judged w _ c.in-Refused.is ∙ ap (λ k. eqb k c.in-Refused.number) (sym c.size_at-refusal.ensures.value))

@@ -1,24 +1,17 @@
--- `case_fronts::bytes_hold` meets its contract. The loop's invariant: from the next place on, the rest decides.
-use Rattle.std.proofs.Common.{◌≡◌, ◌-◌, ◌<◌, List, map, length, get_or, ℤ, pos, sym, ap, ◌∙◌, arith, to_z-of_z, w32, SFits, rules}
+-- `fronts::bytes_hold` meets its contract. The loop's invariant: from the next place on, the rest decides.
+use Rattle.std.proofs.Common.{◌≡◌, ◌<◌, List, map, length, get_or, ℤ, pos, sym, ap, ◌∙◌, arith, to_z-of_z, w32}
 use lib.ListN.{length-map}
 use Rattle.numbers.specs.Ranges.{eq_z}
 use Rattle.numbers.proofs.Laws.Lists.{get_d_map}
 use Rattle.cases.specs.Rows.{byte_lent}
-use Rattle.cases.proofs.Laws.Rows.{HoldsTo, holds_start, holds_on, holds_not, holds_all}
+use Rattle.cases.proofs.Laws.Rows.{holds_start, holds_on, holds_not, holds_all}
 use Rattle.cases.proofs.fronts.bytes_hold.Goals as goal
-use Rattle.cases.proofs.fronts.bytes_hold.Goals.{After-is_at, After-shared_slice_known-in-loop-i-1}
+use Rattle.cases.proofs.fronts.bytes_hold.Goals.{After-is_at}
 
 pub loop-i-init : goal.loop-i-init
 loop-i-init c =
     let a = c.args in
     holds_start (pos byte_lent) (map pos a.row.now) a.front.now
-
--- A byte is a number of 32 bits.
-byte_fits : (c : After-shared_slice_known-in-loop-i-1) → SFits w32 (pos (get_or c.args.row.now c.loop-i.i 0))
-byte_fits c = record { sfits = (let b = c.shared_slice_known-in-loop-i-1.given c.loop-i.i in omega arith) }
-
-pub overflow_cast-row : goal.overflow_cast-row
-overflow_cast-row c = byte_fits c
 
 -- The byte at the place is tested.
 module _ (c : After-is_at) where
@@ -33,7 +26,7 @@ module _ (c : After-is_at) where
       let a = c.args in
       c.is_at.ensures
       ∙ ap (λ z. eq_z z (get_or a.front.now c.loop-i.i (pos byte_lent)))
-      (to_z-of_z (byte_fits UNMAPPED.After-shared_slice_known-in-loop-i-1) ∙ sym (get_d_map pos a.row.now c.loop-i.i 0 (pos byte_lent) c.loop-i-test.true))
+      (to_z-of_z {w = w32} {z = pos (get_or a.row.now c.loop-i.i 0)} (let b = (c.type_inv.row c.loop-i.i).fits in record { sfits = omega arith }) ∙ sym (get_d_map pos a.row.now c.loop-i.i 0 (pos byte_lent) c.loop-i-test.true))
 
 pub returns-then-not-is_at : goal.returns-then-not-is_at
 returns-then-not-is_at c =

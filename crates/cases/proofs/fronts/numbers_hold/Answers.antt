@@ -1,9 +1,9 @@
--- `case_fronts::numbers_hold` meets its contract. The loop's invariant: from the next place on, the rest decides.
+-- `fronts::numbers_hold` meets its contract. The loop's invariant: from the next place on, the rest decides.
 use mir.Syntax.{w32}
-use Rattle.std.proofs.Common.{◌≡◌, ◌-◌, length, get_or, pos, sym, ap, ◌∙◌, to_z-of_z, rules}
+use Rattle.std.proofs.Common.{slice_index_or, ◌≡◌, get_or, pos, sym, ap, ◌∙◌, to_z-of_z, rules}
 use Rattle.numbers.specs.Ranges.{eq_z}
 use Rattle.cases.specs.Rows.{number_lent}
-use Rattle.cases.proofs.Laws.Rows.{HoldsTo, holds_start, holds_on, holds_not, holds_all, inside_row}
+use Rattle.cases.proofs.Laws.Rows.{holds_start, holds_on, holds_not, holds_all, inside_row}
 use Rattle.cases.proofs.fronts.numbers_hold.Goals as goal
 use Rattle.cases.proofs.fronts.numbers_hold.Goals.{After-is_at}
 
@@ -19,7 +19,7 @@ module _ (c : After-is_at) where
       let a = c.args in
       c.is_at.ensures
       ∙ ap (λ z. eq_z z (get_or a.front.now c.loop-i.i number_lent))
-      (to_z-of_z {w = w32} (record { sfits = c.is_at-arg-1.given }) ∙ inside_row a.row.now c.loop-i.i (pos 0) number_lent c.loop-i-test.true)
+      (to_z-of_z {w = w32} {z = slice_index_or c.args.row.now c.loop-i.i (pos 0)} (record { sfits = search rules }) ∙ inside_row a.row.now c.loop-i.i (pos 0) number_lent c.loop-i-test.true)
 
 pub returns-then-not-is_at : goal.returns-then-not-is_at
 returns-then-not-is_at c =

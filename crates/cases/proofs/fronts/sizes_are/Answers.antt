@@ -1,10 +1,10 @@
--- `case_fronts::sizes_are` meets its contract. The loop's invariant: from the next place on, the rest decides.
-use Rattle.std.proofs.Common.{◌≡◌, ◌-◌, ◌<◌, eqb, leb, List, map, length, get_or, ℤ, pos, sym, ap, ◌∙◌, ap₂, rules, eq-eqb, ne_eqb}
+-- `fronts::sizes_are` meets its contract. The loop's invariant: from the next place on, the rest decides.
+use Rattle.std.proofs.Common.{◌≡◌, ◌<◌, eqb, leb, List, map, length, get_or, ℤ, pos, sym, ap, ◌∙◌, ap₂, eq-eqb, ne_eqb}
 use lib.ListN.{length-map, get_or-map}
 use lib.Signed.{mag}
 use Rattle.numbers.specs.Ranges.{eq_z}
 use Rattle.cases.specs.Rows.{size_at, sizes_are}
-use Rattle.cases.proofs.Laws.Rows.{HoldsTo, holds_start, holds_on, holds_not, holds_all}
+use Rattle.cases.proofs.Laws.Rows.{holds_start, holds_on, holds_not, holds_all}
 use Rattle.cases.proofs.fronts.sizes_are.Goals as goal
 use Rattle.cases.proofs.fronts.sizes_are.Goals.{After-size_at}
 
@@ -29,7 +29,7 @@ module _ (c : After-size_at) where
   tested =
       let a = c.args in
       ap₂ eq_z (get_or-map pos a.sizes.now c.loop-i.i 0) (get_or-map (λ z. pos (mag z)) a.expected.now c.loop-i.i (pos 0))
-      ∙ ap (eqb (get_or a.sizes.now c.loop-i.i 0)) (sym c.size_at.ensures.0)
+      ∙ ap (eqb (get_or a.sizes.now c.loop-i.i 0)) (sym c.size_at.ensures.value)
 
 pub returns-then-sizes-i : goal.returns-then-sizes-i
 unfolding sizes_are

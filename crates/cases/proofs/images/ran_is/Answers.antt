@@ -1,4 +1,4 @@
--- `case_images::ran_is` meets its contract.
+-- `images::ran_is` meets its contract.
 use Rattle.std.proofs.Common.{◌≡◌, Bool, ◌&&◌, eqb, sym, ap, ◌∙◌, w32, rules, eq-eqb, ne_eqb}
 use Rattle.numbers.specs.Ranges.{eq_z}
 use Rattle.numbers.proofs.Laws.Machine.{bits_equal}
@@ -14,7 +14,7 @@ module _ (k : In-Value) where
   abbrev passes : Bool
   passes = ran_is k.args.refusal k.args.value k.args.words (ran k.args.answer)
 
-  judged : passes ≡ (eqb k.args.refusal 0 && (eqb k.args.words k.in-Value.FIELDS.1.0 && eq_z k.in-Value.FIELDS.0 k.args.value))
+  judged : passes ≡ (eqb k.args.refusal 0 && (eqb k.args.words k.in-Value.read && eq_z k.in-Value.found k.args.value))
   unfolding ran_is answer_is ran
   judged = ap (λ a. ran_is k.args.refusal k.args.value k.args.words (ran a)) k.in-Value.is
 
@@ -24,16 +24,16 @@ returns-else-refusal-eq0 c = let k = (goal.at.returns-else-refusal-eq0 c).In-Val
 pub returns-else-words-read : goal.returns-else-words-read
 returns-else-words-read c =
     let k = (goal.at.returns-else-words-read c).In-Value in
-    ne_eqb _ _ c.if-words-read.false ∙ sym (judged k ∙ passed _ (eq-eqb c.args.refusal 0 c.if-refusal-eq0.true) ∙ failed _ (ne_eqb c.args.words k.in-Value.FIELDS.1.0 c.if-words-read.false))
+    ne_eqb _ _ c.if-words-read.false ∙ sym (judged k ∙ passed _ (eq-eqb c.args.refusal 0 c.if-refusal-eq0.true) ∙ failed _ (ne_eqb c.args.words k.in-Value.read c.if-words-read.false))
 
 pub returns-then-words-read : goal.returns-then-words-read
 returns-then-words-read c =
     let k = (goal.at.returns-then-words-read c).In-Value in
-    bits_equal w32 _ _ (record { sfits = k.in-Value.FIELDS.1 }) c.ranges.value
+    bits_equal w32 _ _ (search rules) c.ranges.value
     ∙ sym
     (judged k
     ∙ passed _ (eq-eqb c.args.refusal 0 c.if-refusal-eq0.true)
-    ∙ passed _ (eq-eqb c.args.words k.in-Value.FIELDS.1.0 c.if-words-read.true))
+    ∙ passed _ (eq-eqb c.args.words k.in-Value.read c.if-words-read.true))
 
 pub returns-in-Refused : goal.returns-in-Refused
 unfolding ran_is answer_is ran

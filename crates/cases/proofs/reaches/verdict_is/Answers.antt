@@ -1,5 +1,5 @@
--- `case_reach::verdict_is` meets its contract.
-use Rattle.std.proofs.Common.{eqb, sym, ap, ◌∙◌, rules}
+-- `reaches::verdict_is` meets its contract.
+use Rattle.std.proofs.Common.{eqb, sym, ap, ◌∙◌}
 use Rattle.reach.specs.Reach.{reach_judgement}
 use Rattle.cases.specs.Rows.{two_sizes_are, answer_is}
 use Rattle.cases.specs.ReachCases.{verdict_is}
@@ -15,4 +15,4 @@ unfolding verdict_is answer_is reach_judgement
 returns-in-Refused c =
     sym
     (ap (λ v. verdict_is c.args.numbers.now (reach_judgement v)) c.in-Refused.is
-    ∙ ap (λ k. eqb k c.in-Refused.number) (sym c.size_at.ensures.0))
+    ∙ ap (λ k. eqb k c.in-Refused.number) (sym c.size_at.ensures.value))

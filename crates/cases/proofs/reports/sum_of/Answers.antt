@@ -1,5 +1,5 @@
--- `case_reports::sum_of` meets its contract: both numbers, the product and the sum fit 64 bits.
-use Rattle.std.proofs.Common.{◌≡◌, ℤ, pos, ◌+ℤ◌, ◌*ℤ◌, ap, ◌∙◌, ap₂, to_z-of_z, w32, w64, SFits, to_z, of_z, rules}
+-- `reports::sum_of` meets its contract: both numbers, the product and the sum fit 64 bits.
+use Rattle.std.proofs.Common.{◌≡◌, ℤ, pos, ◌+ℤ◌, ◌*ℤ◌, ap, ◌∙◌, ap₂, to_z-of_z, w32, w64, SFits, to_z, of_z}
 use borrow.Author.Rules.{sfits_of}
 use Rattle.numbers.proofs.Laws.Machine.{wider}
 use Rattle.cases.specs.ReportCases.{sum_of}
@@ -26,18 +26,6 @@ module _ (c : After-number_at-low) where
 
   is_product : to_z w64 (of_z w64 (to_z w64 (of_z w64 (to_z w32 (of_z w32 high))) *ℤ pos 1000000000)) ≡ high *ℤ pos 1000000000
   is_product = ap (λ z. to_z w64 (of_z w64 (z *ℤ pos 1000000000))) (back high_fits) ∙ to_z-of_z (product_fits high_fits)
-
-pub overflow_cast-result : goal.overflow_cast-result
-overflow_cast-result c = rw (to_z-of_z (high_fits c)) (wider (high_fits c))
-
-pub overflow_mul-result : goal.overflow_mul-result
-overflow_mul-result c = rw (back c (high_fits c)) (product_fits (high_fits c))
-
-pub overflow_cast-result-2 : goal.overflow_cast-result-2
-overflow_cast-result-2 c = rw (to_z-of_z (low_fits c)) (wider (low_fits c))
-
-pub overflow_add-result : goal.overflow_add-result
-overflow_add-result c = rw (is_product c, back c (low_fits c)) (sum_fits (high_fits c) (low_fits c))
 
 pub returns : goal.returns
 unfolding sum_of

@@ -1,5 +1,5 @@
--- `case_rows::is_at` meets its contract: equal bits are equal numbers.
-use Rattle.std.proofs.Common.{get_or, ap, ◌∙◌, to_z-of_z, w32, rules}
+-- `rows::is_at` meets its contract: equal bits are equal numbers.
+use Rattle.std.proofs.Common.{get_or, ap, ◌∙◌, to_z-of_z, w32}
 use Rattle.numbers.specs.Ranges.{eq_z}
 use Rattle.numbers.proofs.Laws.Machine.{bits_equal}
 use Rattle.cases.proofs.rows.is_at.Goals as goal

@@ -1,8 +1,8 @@
--- `case_sums::sum` meets its contract: what was answered and left decides.
-use Rattle.std.proofs.Common.{◌≡◌, ◌≤◌, List, length, take, replicate, ℤ, sym, ap, ◌∙◌, length-take-le, take_at, rules}
+-- `summed::sum` meets its contract: what was answered and left decides.
+use Rattle.std.proofs.Common.{◌≡◌, ◌≤◌, List, length, take, replicate, ℤ, sym, ap, ◌∙◌, length-take-le, take_at}
 use Rattle.sums.specs.Sums.{plain_sum, summed}
 use Rattle.cases.specs.Rows.{size_at, number_lent}
-use Rattle.cases.proofs.Laws.Tests.{lent_front, front_within, front_length}
+use Rattle.cases.proofs.Laws.Tests.{lent_front}
 use Rattle.cases.specs.SumCases.{filled_is, table_passes, sum_passes}
 use Rattle.cases.proofs.Laws.SumCases.{too_many, judged}
 use Rattle.cases.proofs.summed.sum.Goals as goal
@@ -12,10 +12,7 @@ pub returns-then-places-gt-MOST_VALUES : goal.returns-then-places-gt-MOST_VALUES
 unfolding sum_passes
 returns-then-places-gt-MOST_VALUES c =
     let a = c.args in
-    sym (too_many a.numbers.now a.front.now c.size_at-places.ensures.0 (plain_sum (size_at a.numbers.now 1) a.weights.now) c.if-places-gt-MOST_VALUES.true)
-
-pub slice_bounds-sum-end : goal.slice_bounds-sum-end
-slice_bounds-sum-end c = sym (length-take-le _ _ (let few : c.size_at-places.result ≤ 4096 = c.if-places-gt-MOST_VALUES.false in few))
+    sym (too_many a.numbers.now a.front.now c.size_at-places.ensures.value (plain_sum (size_at a.numbers.now 1) a.weights.now) c.if-places-gt-MOST_VALUES.true)
 
 -- What was left, and what decides.
 module _ (c : After-sum-answer) where
@@ -29,26 +26,20 @@ module _ (c : After-sum-answer) where
   front = c.args.front.now
 
   abbrev left : List ℤ
-  left = c.sum-answer.new.1.1.0
+  left = c.sum-answer.new.table
 
   few : c.size_at-places.result ≤ 4096
   few = c.if-places-gt-MOST_VALUES.false
 
   kept : length left ≡ c.size_at-places.result
-  kept = c.sum-answer.auto.1.1.0 ∙ length-take-le _ _ few
+  kept = c.sum-answer.auto.table ∙ length-take-le _ _ few
 
   decided : sum_passes numbers weights front ≡ filled_is numbers (summed c.sum-answer.result) left front
   unfolding sum_passes
   decided =
-      ap (λ k. table_passes numbers (plain_sum k weights) front) (sym c.size_at-n.ensures.0)
-      ∙ judged numbers front c.size_at-places.ensures.0 (plain_sum c.size_at-n.result weights)
+      ap (λ k. table_passes numbers (plain_sum k weights) front) (sym c.size_at-n.ensures.value)
+      ∙ judged numbers front c.size_at-places.ensures.value (plain_sum c.size_at-n.result weights)
       (take c.size_at-places.result (replicate 4096 number_lent)) c.sum-answer.result left few (lent_front number_lent c.size_at-places.result 4096 few) c.sum-answer.ensures
-
-pub slice_bounds-lent-end-2 : goal.slice_bounds-lent-end-2
-slice_bounds-lent-end-2 c = front_within (left (goal.at.slice_bounds-lent-end-2 c).After-sum-answer) _ (kept (goal.at.slice_bounds-lent-end-2 c).After-sum-answer)
-
-pub slice_bounds-filled_is-end : goal.slice_bounds-filled_is-end
-slice_bounds-filled_is-end c = front_length (left (goal.at.slice_bounds-filled_is-end c).After-sum-answer) _ (kept (goal.at.slice_bounds-filled_is-end c).After-sum-answer)
 
 pub returns : goal.returns
 returns c =

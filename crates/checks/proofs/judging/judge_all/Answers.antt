@@ -1,54 +1,30 @@
--- `checks::judging::judge_all` is safe and ends.
-use Prim.Native.Nat.{ℕ, ◌-◌, ◌≤◌, ◌<◌}
-use mathlib.Core.List.{List}
-use native.Mathlib.Omega.{arith}
-use lib.ListN.{length}
-use borrow.Author.Rules.{rules}
+-- `judging::judge_all` is safe and ends: both lines end within the text, the first behind its start.
+use Rattle.std.proofs.Common.{◌≡◌, ℕ, ◌+◌, ◌≤◌, List, length, drop, arith}
+use Rattle.cases.specs.Text.{line_length}
 use Rattle.cases.proofs.Laws.Text.{behind_within, behind_further}
 use Rattle.checks.proofs.judging.judge_all.Goals as goal
-use Rattle.checks.proofs.judging.judge_all.Goals.{After-behind_line-next, After-behind_line-numbers}
 
--- The line of the title ends within the text, and behind its start.
-module _ (c : After-behind_line-numbers) where
-  abbrev text : List ℕ
-  text = c.args.cases.now
+-- The line of the title and the line of the numbers end within the text.
+title_within : (text : List ℕ) (at : ℕ) → at ≤ length text → {numbers : ℕ} → numbers ≡ at + line_length (drop at text) → numbers ≤ length text
+title_within text at inside e = let f = behind_within text at inside in omega arith
 
-  title_further : c.loop-at.at < c.behind_line-numbers.result
-  title_further = let e = c.behind_line-numbers.ensures in let f = behind_further text c.loop-at.at c.loop-at-test.true in omega arith
-
-  title_within : c.behind_line-numbers.result ≤ length text
-  title_within = let e = c.behind_line-numbers.ensures in let f = behind_within text c.loop-at.at c.loop-at.invariant in omega arith
+both_within : (text : List ℕ) (at : ℕ) → at ≤ length text → {numbers next : ℕ} → numbers ≡ at + line_length (drop at text) → next ≡ numbers + line_length (drop numbers text) → next ≤ length text
+both_within text at inside {numbers} e f = title_within text numbers (title_within text at inside e) f
 
 pub behind_line-next-requires : goal.behind_line-next-requires
-behind_line-next-requires c = title_within c
-
--- The line of the numbers ends within it too, and no sooner.
-module _ (c : After-behind_line-next) where
-  numbers_further : c.behind_line-numbers.result ≤ c.behind_line-next.result
-  numbers_further = let e = c.behind_line-next.ensures in omega arith
-
-  numbers_within : c.behind_line-next.result ≤ length (text (goal.at.slice_bounds-judge_line-count c).After-behind_line-numbers)
-  numbers_within = let e = c.behind_line-next.ensures in let f = behind_within (text (goal.at.slice_bounds-judge_line-count c).After-behind_line-numbers) c.behind_line-numbers.result (title_within (goal.at.slice_bounds-judge_line-count c).After-behind_line-numbers) in omega arith
-
-pub slice_bounds-judge_line-count : goal.slice_bounds-judge_line-count
-slice_bounds-judge_line-count c = numbers_further c
-
-pub slice_bounds-judge_line-start : goal.slice_bounds-judge_line-start
-slice_bounds-judge_line-start c = numbers_further c
+behind_line-next-requires g c = title_within c.args.cases.now c.loop-at.at c.loop-at.invariant c.behind_line-numbers.ensures
 
 pub slice_bounds-judge_line-end : goal.slice_bounds-judge_line-end
-slice_bounds-judge_line-end c = numbers_within c
+slice_bounds-judge_line-end g c = both_within c.args.cases.now c.loop-at.at c.loop-at.invariant c.behind_line-numbers.ensures c.behind_line-next.ensures
 
 pub slice_bounds-note-end : goal.slice_bounds-note-end
-slice_bounds-note-end c = title_within (goal.at.slice_bounds-note-end c).After-behind_line-numbers
+slice_bounds-note-end g c = title_within c.args.cases.now c.loop-at.at c.loop-at.invariant c.behind_line-numbers.ensures
 
 pub loop-at-smaller : goal.loop-at-smaller
-loop-at-smaller c =
-    let second = (goal.at.loop-at-smaller c).After-behind_line-next in
-    let on = title_further (goal.at.loop-at-smaller c).After-behind_line-numbers in
-    let further = numbers_further second in
-    let inside = numbers_within second in
-    omega arith
+loop-at-smaller g c =
+    let on = behind_further c.args.cases.now c.loop-at.at c.loop-at-test.true in
+    let inside = both_within c.args.cases.now c.loop-at.at c.loop-at.invariant c.behind_line-numbers.ensures c.behind_line-next.ensures in
+    omega (arith, on, inside, c.behind_line-numbers.ensures, c.behind_line-next.ensures)
 
 pub loop-at-preserved : goal.loop-at-preserved
-loop-at-preserved c = numbers_within (goal.at.loop-at-preserved c).After-behind_line-next
+loop-at-preserved g c = both_within c.args.cases.now c.loop-at.at c.loop-at.invariant c.behind_line-numbers.ensures c.behind_line-next.ensures

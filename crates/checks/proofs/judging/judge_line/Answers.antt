@@ -1,11 +1,6 @@
--- `checks::judging::judge_line` meets its contract: the numbers that were read decide.
-use Prim.Native.Nat.{◌≤◌}
-use mathlib.Core.Path.{sym, ◌∙◌, ap}
-use native.Mathlib.Omega.{arith}
-use lib.ListN.{length, length-replicate}
-use lib.Seq.{length-take-le}
-use lib.IntN.{pos}
-use borrow.Author.Rules.{rules}
+-- `judging::judge_line` meets its contract: the numbers that were read decide.
+use Rattle.std.proofs.Common.{◌≤◌, length, sym, ◌∙◌, ap, pos, arith, length-take-le}
+use lib.ListN.{length-replicate}
 use Rattle.cases.specs.Text.{line_numbers}
 use Rattle.cases.proofs.Laws.Text.{count_within, row_taken}
 use Rattle.checks.specs.Cases.{case_passes, line_passes}
@@ -13,8 +8,8 @@ use Rattle.checks.proofs.judging.judge_line.Goals as goal
 use Rattle.checks.proofs.judging.judge_line.Goals.{After-read_row-count}
 
 -- The numbers that were read are within the row.
-within : (c : After-read_row-count) → c.read_row-count.result ≤ length c.read_row-count.new.1.0
-within c = let w = count_within c.read_row-count.ensures in let k = c.read_row-count.auto.1.0 in omega arith
+within : (c : After-read_row-count) → c.read_row-count.result ≤ length c.read_row-count.new.row
+within c = let w = count_within c.read_row-count.ensures in let k = c.read_row-count.auto.row in omega arith
 
 pub slice_bounds-row-end : goal.slice_bounds-row-end
 slice_bounds-row-end c = within (goal.at.slice_bounds-row-end c).After-read_row-count

@@ -48,7 +48,4 @@ returns c =
     ∙ ap is_weight (to_z-of_z c.ranges.weight)
     ∙ sym
     (word_decides a.place a.class a.weight c.if-place-class.false
-    (λ e. elim c.if-place-eq0.branch [
-      | then-place-eq0+else-weight-ne0 w ↦ same_bits w32 a.weight (pos 0) c.ranges.weight (sfits_lit tt) w.if-weight-ne0.false
-      | else-place-eq0 w ↦ absurd (w.if-place-eq0.false (rw size e))
-    ]))
+    (λ e. let b = same_bits w32 a.weight (pos 0) c.ranges.weight (sfits_lit tt) in grind (arith, b, size, e)))

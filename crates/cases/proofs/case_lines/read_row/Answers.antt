@@ -1,5 +1,4 @@
 -- `case_lines::read_row` meets its contract. The loop's invariant: the numbers so far are found, and stand in front of the row.
---
 use Rattle.std.proofs.Common.{◌≡◌, ℕ, List, length, sym, ◌∙◌, subst, le_refl, arith, w32, to_z, of_z, rules}
 use Rattle.decimal.specs.declared.Item.{Item}
 use Rattle.decimal.proofs.Laws.Items.{Seen, item_seen}

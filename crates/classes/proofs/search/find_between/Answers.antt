@@ -1,5 +1,4 @@
--- `search::find_between` meets its contract. The loop's invariant: the first from the start on is the first from this class on. Assumes
--- nothing.
+-- `search::find_between` meets its contract. The loop's invariant: the first from the start on is the first from this class on.
 use Prim.Native.Nat.{◌≤◌, ◌<◌}
 use mathlib.Core.Path.{◌≡◌, refl, sym, ◌∙◌, ap}
 use mathlib.Core.Bool.{Bool}

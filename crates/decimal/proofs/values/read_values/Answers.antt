@@ -1,5 +1,4 @@
 -- `values::read_values` meets its contract. The loop's invariant: the values so far are found, and stand in front of the row.
---
 use Prim.Native.Nat.{ℕ}
 use mathlib.Core.Path.{◌≡◌, sym, ◌∙◌, subst}
 use native.Mathlib.Omega.{arith}

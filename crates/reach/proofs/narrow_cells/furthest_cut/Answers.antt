@@ -1,5 +1,4 @@
 -- `narrow_cells::furthest_cut` meets its contract. The loop's invariant: from each cut above h the cell of one variable fits.
---
 use Prim.Native.Nat.{ℕ, ◌+◌, ◌≤◌, ◌<◌}
 use mathlib.Core.Path.{◌≡◌}
 use native.Mathlib.Omega.{arith}

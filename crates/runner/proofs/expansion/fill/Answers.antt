@@ -1,5 +1,4 @@
 -- `expansion::fill` meets its contract. The loop's invariant: the rows hold the class and the value of each block of the cut reached.
---
 use Prim.Native.Nat.{ℕ, ◌+◌, ◌*◌, ◌%◌, ◌^◌, ◌≤◌, ◌<◌}
 use mathlib.Core.Path.{◌≡◌, refl, sym, ◌∙◌, ap}
 use mathlib.Core.List.{List}

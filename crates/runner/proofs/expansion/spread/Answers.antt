@@ -170,7 +170,8 @@ unfolding block_class
 loop-y-preserved c =
     let d = (goal.at.loop-y-preserved c).In-loop-y in
     let class = c.read_two-class.ensures.read ∙ ap (λ n. unsigned_at (image d) (n + 1) 2) (placed (goal.at.loop-y-preserved c).After-word_place-word) in
-    let value = ap (λ z. to_z w32 (of_z w32 z)) (total c) ∙ to_z-of_z {w = w32} (small c) in
+    let s = (goal.at.loop-y-preserved c).After-read_signed in
+    let value = ap (λ z. to_z w32 (of_z w32 z)) (total s) ∙ to_z-of_z {w = w32} (small s) in
     rw (class, value) (spread_more (image d) c.args.words c.args.group c.args.count (classes d) (table d) c.requires (row d) (values d) (y d) (inv d) (some d))
 
 pub shape_of-table : goal.shape_of-table

@@ -1,5 +1,5 @@
 -- The paper's "Table and blocks" and the classes of its "Cuts and grouping"; then, of W-203, how many classes a search tries, of
--- W-207, how many blocks use a class, and how all that lies in rows; what holds of it, and cuts worked out by hand.
+-- W-207, how many blocks use a class, and how all that lies in rows.
 pub mod Blocks
 pub mod Classes
 pub mod Searching

@@ -1,3 +1,2 @@
--- Nothing of the paper is said here: Build is defined in diagram.
--- What is proved of all that, which proofs cite.
+-- What is proved of the definitions, which proofs cite.
 pub mod Laws

@@ -1,0 +1,1 @@
+-- Nothing of the paper is said here: Build is defined in diagram.

@@ -1,3 +1,3 @@
--- What is proved of all that, which proofs cite.
+-- What is proved of the definitions: the laws, which proofs cite, then the theorems.
 pub mod Laws
 pub mod Theorems

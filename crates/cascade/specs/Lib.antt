@@ -1,4 +1,4 @@
--- The paper's "Cuts and grouping" from the grouping on, the operations Plan and Compile, what holds of them, and cells as rows of numbers.
+-- The paper's "Cuts and grouping" from the grouping on, the operations Plan and Compile, and cells as rows of numbers.
 pub mod Cascade
 pub mod Groupings
 pub mod Plan

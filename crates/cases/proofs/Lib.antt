@@ -1,2 +1,2 @@
--- What is proved of all that, which proofs cite.
+-- What is proved of the definitions, which proofs cite.
 pub mod Laws

@@ -1,1 +1,2 @@
+-- What is proved of the definitions, which proofs cite.
 pub mod Laws

@@ -1,2 +1,2 @@
--- The classing of a table's cuts: what the functions are lent and promise, and the laws that prove it.
+-- The classing of a table's cuts: what the functions are lent and promise.
 pub mod Inner

@@ -1,4 +1,4 @@
--- Tables in decimal text, which are not the paper's: words, numbers, what a text gives, the same as plain conditions, and what holds of every text.
+-- Tables in decimal text, which are not the paper's: words, numbers, what a text gives, and the same as plain conditions.
 pub mod Words
 pub mod Numbers
 pub mod Table

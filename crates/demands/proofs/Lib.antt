@@ -1,4 +1,4 @@
--- What is proved of all that, which proofs cite.
+-- The laws, which proofs cite; then, sentence by sentence, the demands and the requests of document 02, and the checked list.
 pub mod Laws
 pub mod Demands
 pub mod Requests

@@ -1,5 +1,5 @@
--- What the whole is trusted for: orders of checks, what the paper admits, the demands sentence by sentence, the same of the requests of
--- document 02, the checked list, and what clients of the operations know.
+-- Of what the whole is trusted for: orders of checks, what the paper and the requests of document 02 admit, and what clients of the
+-- operations know.
 pub mod Checks
 pub mod Admitted
 pub mod Requested

@@ -1,4 +1,4 @@
--- What is proved of all that, which proofs cite.
+-- What is proved of the definitions: the laws, which proofs cite, then the theorems.
 pub mod Laws
 pub mod Theorems
 pub mod NodeBound

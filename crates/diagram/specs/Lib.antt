@@ -1,4 +1,4 @@
--- The paper's "Diagram", the operations Build and Walk, what is accepted, demand 2, and the node bound of demand 3.
+-- The paper's "Diagram", the operations Build and Walk, what is accepted, and what the node bound counts.
 pub mod Records
 pub mod Build
 pub mod Walk

@@ -1,5 +1,5 @@
--- The paper's "Image": cells, commands, the reader's step and what it admits; Run and Expand; what an older image is (W-202); and what holds of
--- all of them. Nothing of tables.
+-- The paper's "Image": cells, commands, the reader's step and what it admits; Run and Expand; what an older image is (W-202). Nothing
+-- of tables.
 pub mod Cells
 pub mod Commands
 pub mod Reader

@@ -1,4 +1,4 @@
--- Lines of text and numbers in decimal, how they are read back, and what holds of them.
+-- Lines of text and numbers in decimal, and how they are read back.
 pub mod Text
 pub mod Reading
 -- What inner functions promise and hold.

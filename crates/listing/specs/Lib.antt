@@ -1,4 +1,4 @@
--- The paper's "Listing program": its text, the function that writes it, what is kept of an input, and what holds of every input.
+-- The paper's "Listing program": its text, the function that writes it, and what is kept of an input.
 pub mod Listing
 pub mod Lines
 pub mod Program

@@ -1,4 +1,4 @@
--- The form of every operation's answer, lists by tests, the paper's ranges and widths, the same ranges as plain conditions, and what holds of the weight width.
+-- The form of every operation's answer, lists by tests, the paper's ranges and widths, and the same ranges as plain conditions.
 pub mod Answers
 pub mod Lists
 pub mod Extremes

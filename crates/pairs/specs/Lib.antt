@@ -1,4 +1,4 @@
--- The pair run of W-204, what holds of it, and what it gives on the compiled images of tables of two variables.
+-- The pair run of W-204, and tables of two variables.
 pub mod Pairs
 pub mod Conditions
 pub mod PairTables

@@ -1,4 +1,4 @@
--- Reach, of W-205, and what holds of it.
+-- Reach, of W-205.
 pub mod Reach
 -- What inner functions promise and hold.
 pub mod Inner

@@ -1,4 +1,4 @@
--- The report of W-201, and what holds of it.
+-- The report of W-201.
 pub mod Report
 -- What inner functions promise and hold.
 pub mod Inner

@@ -1,4 +1,4 @@
--- Sum and Remainder, of W-206, and what holds of them.
+-- Sum and Remainder, of W-206.
 pub mod Sums
 -- What inner functions promise and hold.
 pub mod Inner

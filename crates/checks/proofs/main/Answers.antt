@@ -1,4 +1,4 @@
--- `main` is safe: the kept bytes are within the buffer.
+-- `checks::main` is safe: the kept bytes are within the buffer.
 use Rattle.std.proofs.Common.{◌≤◌, length, sym, arith, length-take-le}
 use Rattle.stdin.proofs.Laws.{kept_count}
 use Rattle.checks.proofs.main.Goals as goal

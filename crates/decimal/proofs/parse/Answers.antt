@@ -1,4 +1,4 @@
--- `parse` meets its contract: n, and what follows it.
+-- `decimal::parse` meets its contract: n, and what follows it.
 use Prim.Native.Nat.{◌≤◌}
 use mathlib.Core.Path.{◌≡◌, refl, sym, ◌∙◌, subst}
 use native.Mathlib.Omega.{arith}

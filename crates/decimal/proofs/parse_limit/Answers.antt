@@ -1,4 +1,4 @@
--- `parse_limit` meets its contract: the limit, nothing more on the first line, and the values.
+-- `decimal::parse_limit` meets its contract: the limit, nothing more on the first line, and the values.
 use mathlib.Core.Path.{◌≡◌, sym, ◌∙◌, subst}
 use native.Mathlib.Omega.{arith}
 use Rattle.decimal.specs.Words.{last_line}

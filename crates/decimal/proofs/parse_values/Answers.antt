@@ -1,4 +1,4 @@
--- `parse_values` meets its contract: the values, then their bytes.
+-- `decimal::parse_values` meets its contract: the values, then their bytes.
 use Prim.Native.Nat.{ℕ, ◌≤◌}
 use mathlib.Core.Path.{◌≡◌, sym, ◌∙◌, ap}
 use mathlib.Core.List.{List}

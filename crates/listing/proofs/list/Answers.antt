@@ -1,4 +1,4 @@
--- `list` meets its contract, by the length of its buffer.
+-- `listing::list` meets its contract, by the length of its buffer.
 use mathlib.Core.Path.{◌∙◌, ap}
 use native.Mathlib.Nat.{zero-add}
 use lib.ListN.{length}

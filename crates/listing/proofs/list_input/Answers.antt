@@ -1,4 +1,4 @@
--- `list_input` meets its contract, by the checks on the input's bytes.
+-- `listing::list_input` meets its contract, by the checks on the input's bytes.
 use mathlib.Core.Path.{◌≡◌, sym, subst}
 use native.Mathlib.Omega.{arith}
 use Rattle.numbers.specs.Answers.{refused}

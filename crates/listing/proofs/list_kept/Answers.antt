@@ -1,4 +1,4 @@
--- `list_kept` meets its contract: its text has room for every listing.
+-- `listing::list_kept` meets its contract: its text has room for every listing.
 use Prim.Native.Nat.{◌≤◌}
 use native.Mathlib.Omega.{arith}
 use lib.ListN.{length}

@@ -1,4 +1,4 @@
--- `list_values` meets its contract: the row's front is the input's table.
+-- `listing::list_values` meets its contract: the row's front is the input's table.
 use Prim.Native.Nat.{ℕ, ◌^◌, ◌≤◌}
 use mathlib.Core.Path.{◌≡◌, sym, ◌∙◌, ap}
 use mathlib.Core.List.{List, ◌++◌}

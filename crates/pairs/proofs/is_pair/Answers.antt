@@ -1,4 +1,4 @@
--- `pair_runner::is_pair` meets its contract.
+-- `pairs::is_pair` meets its contract.
 use Prim.Native.Nat.{◌^◌}
 use native.Mathlib.Omega.{arith}
 use borrow.Author.Tests.{lt-ltb, le-ltb}

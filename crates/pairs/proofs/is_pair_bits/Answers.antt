@@ -1,4 +1,4 @@
--- `pair_runner::is_pair_bits` meets its contract.
+-- `pairs::is_pair_bits` meets its contract.
 use borrow.Author.Tests.{le-leb, lt-leb}
 use Rattle.pairs.specs.Pairs.{is_pair_bits}
 use Rattle.pairs.proofs.is_pair_bits.Goals as goal

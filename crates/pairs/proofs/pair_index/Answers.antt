@@ -1,4 +1,4 @@
--- `pair_runner::pair_index` meets its contract: its numbers are small.
+-- `pairs::pair_index` meets its contract: its numbers are small.
 use Prim.Native.Nat.{◌+◌, ◌*◌, ◌^◌, ◌≤◌, ◌<◌}
 use mathlib.Core.Path.{sym, ap, subst}
 use native.Mathlib.Omega.{arith}

@@ -1,4 +1,4 @@
--- `pair_runner::pair_run` meets its contract, check by check.
+-- `pairs::pair_run` meets its contract, check by check.
 use Prim.Native.Nat.{◌*◌}
 use mathlib.Core.Path.{◌≡◌, sym, ◌∙◌, ap}
 use mathlib.Core.Bool.{true}

@@ -1,4 +1,4 @@
--- `reacher::check_call` meets its contract.
+-- `reach::check_call` meets its contract.
 use mathlib.Core.Path.{◌≡◌, sym, ◌∙◌, ap}
 use Rattle.numbers.specs.Answers.{accepted, unless}
 use Rattle.numbers.specs.Ranges.{is_limit}

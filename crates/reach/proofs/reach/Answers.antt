@@ -1,4 +1,4 @@
--- `reacher::reach` meets its contract: the fronts of the rows are lent and come back with the classes of all cuts.
+-- `reach::reach` meets its contract: the fronts of the rows are lent and come back with the classes of all cuts.
 use Prim.Native.Nat.{ℕ, suc, ◌+◌, ◌-◌, ◌^◌, ◌≤◌}
 use mathlib.Core.Path.{◌≡◌, sym, ◌∙◌, ap, subst⁻¹}
 use mathlib.Core.Bool.{true}

@@ -1,4 +1,4 @@
--- `reacher::refused_reach` meets its contract.
+-- `reach::refused_reach` meets its contract.
 use mathlib.Core.Path.{refl}
 use Rattle.numbers.specs.Lists.{padded}
 use Rattle.reach.specs.Inner.Checks.{refused_reach}

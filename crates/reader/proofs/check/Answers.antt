@@ -1,4 +1,4 @@
--- `reader::reading::check` meets its contract. The loop's invariant: the steps from the place on decide.
+-- `reader::check` meets its contract. The loop's invariant: the steps from the place on decide.
 use mathlib.Core.Path.{◌≡◌, sym, ◌∙◌, subst}
 use native.Mathlib.Omega.{arith}
 use Rattle.numbers.specs.Answers.{accepted}

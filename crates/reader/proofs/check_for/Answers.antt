@@ -1,4 +1,4 @@
--- `reader::reading::check_for` meets its contract: another n is 13, else the image is read as ever.
+-- `reader::check_for` meets its contract: another n is 13, else the image is read as ever.
 use mathlib.Core.Path.{sym, ◌∙◌, ap}
 use Rattle.numbers.specs.Inner.Checks.{checked}
 use Rattle.image.proofs.Laws.Reading.{done}

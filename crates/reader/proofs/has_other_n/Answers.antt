@@ -1,4 +1,4 @@
--- `reader::reading::has_other_n` meets its contract.
+-- `reader::has_other_n` meets its contract.
 use mathlib.Core.Path.{sym, ◌∙◌}
 use lib.ListN.{length, get_or}
 use borrow.Author.Tests.{le-leb, lt-leb, eq-eqb, ne_eqb}

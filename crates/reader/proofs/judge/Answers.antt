@@ -1,4 +1,4 @@
--- `reader::reading::judge` meets its contract.
+-- `reader::judge` meets its contract.
 use mathlib.Core.Path.{sym, ◌∙◌}
 use Rattle.image.specs.Reader.{judged, stepped}
 use Rattle.reader.proofs.judge.Goals as goal

@@ -1,4 +1,4 @@
--- `reader::reading::read_step` meets its contract, check by check.
+-- `reader::read_step` meets its contract, check by check.
 use Prim.Native.Nat.{◌+◌, ◌≤◌}
 use mathlib.Core.Path.{◌≡◌, sym, ◌∙◌, ap, subst}
 use mathlib.Core.Bool.{true}

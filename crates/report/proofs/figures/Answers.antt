@@ -1,4 +1,4 @@
--- `reporter::figures` meets its contract. The loop's invariant: the figures of the values up to X, and what its path reaches above the lowest
+-- `report::figures` meets its contract. The loop's invariant: the figures of the values up to X, and what its path reaches above the lowest
 -- variables.
 use Prim.Native.Nat.{ℕ, ◌+◌, ◌^◌, ◌≤◌, ◌<◌}
 use mathlib.Core.Path.{◌≡◌, sym, ◌∙◌, ap, ap₂, subst}

@@ -1,4 +1,4 @@
--- `reporter::is_part` meets its contract.
+-- `report::is_part` meets its contract.
 use mathlib.Core.Path.{sym, ◌∙◌, ap}
 use lib.Dec.{ltb}
 use Rattle.report.proofs.Laws.Answers.{part_turned, part_left}

@@ -1,4 +1,4 @@
--- `reporter::report` meets its contract: its checks, then what follows them.
+-- `report::report` meets its contract: its checks, then what follows them.
 use mathlib.Core.Path.{◌≡◌, sym, ◌∙◌, ap}
 use mir.Syntax.{w32}
 use mir.Facts.{to_z-of_z}

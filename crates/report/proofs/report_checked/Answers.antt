@@ -1,4 +1,4 @@
--- `reporter::report_checked` meets its contract: 15, or the figures.
+-- `report::report_checked` meets its contract: 15, or the figures.
 use mathlib.Core.Path.{◌≡◌, sym, ◌∙◌, ap}
 use mathlib.Core.Bool.{true}
 use native.Mathlib.Omega.{arith}

@@ -1,4 +1,4 @@
--- `summer::remainder` meets its contract.
+-- `sums::remainder` meets its contract.
 use mathlib.Core.Path.{sym, ◌∙◌, ap}
 use lib.ListN.{length}
 use Rattle.numbers.specs.Answers.{unless}

@@ -1,4 +1,4 @@
--- `summer::remainder_weighted` meets its contract.
+-- `sums::remainder_weighted` meets its contract.
 use Prim.Native.Nat.{◌^◌}
 use mathlib.Core.Path.{◌≡◌, sym, ◌∙◌, ap}
 use mathlib.Core.Bool.{true}

@@ -1,4 +1,4 @@
--- `summer::sum` meets its contract.
+-- `sums::sum` meets its contract.
 use mathlib.Core.Path.{sym, ◌∙◌, ap}
 use lib.ListN.{length}
 use Rattle.numbers.specs.Answers.{unless}

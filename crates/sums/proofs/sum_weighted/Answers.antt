@@ -1,4 +1,4 @@
--- `summer::sum_weighted` meets its contract.
+-- `sums::sum_weighted` meets its contract.
 use Prim.Native.Nat.{◌^◌}
 use mathlib.Core.Path.{◌≡◌, sym, ◌∙◌, ap}
 use mathlib.Core.Bool.{true}

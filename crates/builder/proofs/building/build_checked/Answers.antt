@@ -1,4 +1,4 @@
--- `builder::building::build_checked` meets its contract.
+-- `building::build_checked` meets its contract.
 use mir.Syntax.{w32}
 use Prim.Native.Nat.{suc, ◌+◌, ◌-◌, ◌^◌, ◌≤◌}
 use mathlib.Core.Path.{◌≡◌, sym, ◌∙◌, ap}

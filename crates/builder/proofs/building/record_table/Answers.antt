@@ -1,4 +1,4 @@
--- `builder::building::record_table` meets its contract.
+-- `building::record_table` meets its contract.
 use Prim.Native.Nat.{◌≤◌}
 use mathlib.Core.Path.{sym, ◌∙◌}
 use lib.ListN.{length}

@@ -1,4 +1,4 @@
--- `builder::building::write_records` meets its contract. The loop's invariant: the heights up to i are placed.
+-- `building::write_records` meets its contract. The loop's invariant: the heights up to i are placed.
 use Prim.Native.Nat.{◌<◌}
 use mathlib.Core.Path.{refl, sym, ◌∙◌}
 use native.Mathlib.Omega.{arith}

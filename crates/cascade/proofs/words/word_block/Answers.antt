@@ -1,4 +1,4 @@
--- `cascade::words::word_block` meets its contract.
+-- `words::word_block` meets its contract.
 use Prim.Native.Nat.{◌+◌, ◌*◌, ◌%◌, ◌^◌}
 use mathlib.Core.Path.{◌≡◌}
 use native.Mathlib.Omega.{arith}

@@ -1,4 +1,4 @@
--- `cascade::words::word_class` meets its contract.
+-- `words::word_class` meets its contract.
 use Prim.Native.Nat.{◌+◌}
 use mathlib.Core.Path.{◌∙◌, ap₂}
 use lib.ListN.{get_or}

@@ -1,4 +1,4 @@
--- `cascade::words::word_weight` meets its contract: the difference of two values fits.
+-- `words::word_weight` meets its contract: the difference of two values fits.
 use Prim.Native.Nat.{◌+◌, ◌-◌, ◌*◌, ◌/◌, ◌%◌, ◌^◌}
 use mathlib.Core.Path.{◌≡◌, ◌∙◌, ap, ap₂}
 use lib.Pow.{pow_pos}

@@ -1,4 +1,4 @@
--- `writer::put_cell` meets its contract: the tail is lent and comes back with the cell in front.
+-- `cells::put_cell` meets its contract: the tail is lent and comes back with the cell in front.
 use Prim.Native.Nat.{◌+◌}
 use mathlib.Core.Path.{ap}
 use Rattle.cascade.specs.Cascade.{cell_of}

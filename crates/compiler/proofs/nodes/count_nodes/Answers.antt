@@ -1,4 +1,4 @@
--- `measures::nodes::count_nodes` meets its contract. The loop's invariant: the terminal and the branching classes of the cuts so far.
+-- `nodes::count_nodes` meets its contract. The loop's invariant: the terminal and the branching classes of the cuts so far.
 use Prim.Native.Nat.{◌+◌, ◌<◌}
 use native.Mathlib.Omega.{arith}
 use mir.Facts.{Fits-of_lt}

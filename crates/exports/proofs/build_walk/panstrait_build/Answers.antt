@@ -1,4 +1,4 @@
--- `panstrait_build` meets its contract: the answer that Build's enum stands for comes back.
+-- `build_walk::panstrait_build` meets its contract: the answer that Build's enum stands for comes back.
 use mathlib.Core.Path.{sym, subst}
 use mir.Syntax.{w32}
 use mir.Facts.{to_z-of_z}

@@ -1,4 +1,4 @@
--- `panstrait_walk` meets its contract: the answer that Walk's enum stands for comes back.
+-- `build_walk::panstrait_walk` meets its contract: the answer that Walk's enum stands for comes back.
 use mathlib.Core.Path.{sym, ◌∙◌, ap, subst}
 use mir.Syntax.{w32}
 use mir.Facts.{to_z-of_z}

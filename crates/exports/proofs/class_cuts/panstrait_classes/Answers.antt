@@ -1,4 +1,4 @@
--- `panstrait_classes` meets its contract: sizes that fit are what the classing of all cuts requires.
+-- `class_cuts::panstrait_classes` meets its contract: sizes that fit are what the classing of all cuts requires.
 use Rattle.exports.proofs.Laws.Room.{sizes_room}
 use Rattle.exports.proofs.class_cuts.panstrait_classes.Goals as goal
 

@@ -1,4 +1,4 @@
--- `panstrait_compile` meets its contract.
+-- `plan_compile::panstrait_compile` meets its contract.
 use Rattle.exports.proofs.Laws.Planned.{compile_given, compile_refused}
 use Rattle.exports.proofs.plan_compile.panstrait_compile.Goals as goal
 

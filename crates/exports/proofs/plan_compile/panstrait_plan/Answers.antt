@@ -1,4 +1,4 @@
--- `panstrait_plan` meets its contract.
+-- `plan_compile::panstrait_plan` meets its contract.
 use Rattle.exports.proofs.Laws.Planned.{plan_given, plan_refused}
 use Rattle.exports.proofs.plan_compile.panstrait_plan.Goals as goal
 

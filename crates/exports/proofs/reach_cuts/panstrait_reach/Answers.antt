@@ -1,4 +1,4 @@
--- `panstrait_reach` meets its contract.
+-- `reach_cuts::panstrait_reach` meets its contract.
 use Rattle.exports.proofs.Laws.ReachGiven.{reach_given, reach_refused}
 use Rattle.exports.proofs.reach_cuts.panstrait_reach.Goals as goal
 

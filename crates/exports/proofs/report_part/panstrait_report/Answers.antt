@@ -1,4 +1,4 @@
--- `panstrait_report` meets its contract: the answer that the report's enum stands for comes back.
+-- `report_part::panstrait_report` meets its contract: the answer that the report's enum stands for comes back.
 use mathlib.Core.Path.{◌≡◌, sym, ◌∙◌, ap}
 use mir.Syntax.{w32, w64}
 use mir.Val.{of_z, to_z}

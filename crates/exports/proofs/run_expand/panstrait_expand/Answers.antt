@@ -1,4 +1,4 @@
--- `panstrait_expand` meets its contract: the answer that Expand's enum stands for comes back.
+-- `run_expand::panstrait_expand` meets its contract: the answer that Expand's enum stands for comes back.
 use Rattle.image.specs.Run.{expanded}
 use Rattle.exports.proofs.Laws.ImageGiven.{expand_given}
 use Rattle.exports.proofs.run_expand.panstrait_expand.Goals as goal

@@ -1,4 +1,4 @@
--- `hand_back` meets its contract: the answer that the enum stands for comes back.
+-- `run_results::hand_back` meets its contract: the answer that the enum stands for comes back.
 use mathlib.Core.Path.{sym, ap, subst}
 use mir.Syntax.{w32}
 use mir.Facts.{to_z-of_z}

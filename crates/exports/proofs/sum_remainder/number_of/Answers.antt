@@ -1,4 +1,4 @@
--- `number_of` meets its contract.
+-- `sum_remainder::number_of` meets its contract.
 use mathlib.Core.Path.{sym, ap}
 use Rattle.exports.specs.Results.{result_of}
 use Rattle.sums.specs.Sums.{summed}

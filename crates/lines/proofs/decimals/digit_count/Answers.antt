@@ -1,4 +1,4 @@
--- `lines::decimals::digit_count` meets its contract. The loop's invariant: the digits counted and those of what is left are all and
+-- `decimals::digit_count` meets its contract. The loop's invariant: the digits counted and those of what is left are all and
 -- one.
 use native.Mathlib.Omega.{arith}
 use Rattle.lines.proofs.Laws.Digits.{counting_starts, counting_next, counting_ends}

@@ -1,4 +1,4 @@
--- `lines::decimals::write_number` meets its contract. The loop's invariant: with the digits that are left the whole number stands there.
+-- `decimals::write_number` meets its contract. The loop's invariant: with the digits that are left the whole number stands there.
 use Prim.Native.Nat.{◌-◌}
 use native.Mathlib.Omega.{arith}
 use Rattle.lines.proofs.Laws.Digits.{all_left, next_digit, none_left}

@@ -1,4 +1,4 @@
--- `lines::decimals::write_signed` meets its contract, by the sign.
+-- `decimals::write_signed` meets its contract, by the sign.
 use Prim.Native.Nat.{◌+◌}
 use mathlib.Core.Path.{◌≡◌, refl, ◌∙◌, ap, sym}
 use mathlib.Core.List.{◌∷◌}

@@ -1,4 +1,4 @@
--- `listing::input::is_listed` meets its contract.
+-- `input::is_listed` meets its contract.
 use borrow.Author.Tests.{le-leb, lt-leb}
 use Rattle.listing.specs.Listing.{is_listed, most_listed}
 use Rattle.listing.proofs.input.is_listed.Goals as goal

@@ -1,4 +1,4 @@
--- `listing::input::read_values` meets its contract. The loop's invariant: the values so far are read.
+-- `input::read_values` meets its contract. The loop's invariant: the values so far are read.
 use Prim.Native.Nat.{◌+◌, ◌*◌}
 use mathlib.Core.Path.{◌≡◌, ◌∙◌}
 use native.Mathlib.Omega.{arith}

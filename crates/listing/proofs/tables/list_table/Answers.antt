@@ -1,4 +1,4 @@
--- `lister::tables::list_table` meets its contract, by Plan's verdict.
+-- `tables::list_table` meets its contract, by Plan's verdict.
 use native.Mathlib.Omega.{arith}
 use Rattle.cascade.proofs.Laws.Planned.{plan_refused, planned_groups}
 use Rattle.listing.specs.Listing.{answer_text}

@@ -1,4 +1,4 @@
--- `lister::tables::write_table` meets its contract: Build's records and Plan's cells give the text.
+-- `tables::write_table` meets its contract: Build's records and Plan's cells give the text.
 use Prim.Native.Nat.{ℕ, suc, ◌+◌, ◌-◌, ◌≤◌}
 use mathlib.Core.Path.{◌≡◌, ◌∙◌, ap}
 use mathlib.Core.List.{List, ◌++◌}

@@ -1,4 +1,4 @@
--- `operand_writer::write_four` meets its contract: two bytes, and two behind them.
+-- `writing::write_four` meets its contract: two bytes, and two behind them.
 use Prim.Native.Nat.{◌+◌, ◌/◌}
 use mathlib.Core.Path.{sym, ◌∙◌, ap}
 use native.Mathlib.Omega.{arith}

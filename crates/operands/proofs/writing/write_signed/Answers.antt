@@ -1,4 +1,4 @@
--- `operand_writer::write_signed` meets its contract, by the sign.
+-- `writing::write_signed` meets its contract, by the sign.
 use Prim.Native.Nat.{◌-◌}
 use mathlib.Core.Path.{◌≡◌, ◌∙◌, ap}
 use lib.Signed.{mag}

@@ -1,4 +1,4 @@
--- `operand_writer::write_two` meets its contract.
+-- `writing::write_two` meets its contract.
 use Prim.Native.Nat.{◌+◌, ◌/◌, ◌%◌}
 use mathlib.Core.List.{[], ◌∷◌}
 use mathlib.Core.Path.{sym, ◌∙◌, ap}

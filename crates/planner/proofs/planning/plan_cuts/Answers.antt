@@ -1,4 +1,4 @@
--- `planner::planning::plan_cuts` meets its contract.
+-- `planning::plan_cuts` meets its contract.
 use mathlib.Core.Path.{◌≡◌, sym, ◌∙◌, ap, subst⁻¹}
 use native.Mathlib.Omega.{arith}
 use lib.ListN.{get_or}

@@ -1,4 +1,4 @@
--- `planner::planning::plan_rows` meets its contract: the fronts of the rows are lent and come back.
+-- `planning::plan_rows` meets its contract: the fronts of the rows are lent and come back.
 use Prim.Native.Nat.{suc, ◌+◌, ◌-◌, ◌^◌, ◌≤◌}
 use mathlib.Core.Path.{◌≡◌, sym, ◌∙◌, ap}
 use native.Mathlib.Numerals.{add-one}

@@ -1,4 +1,4 @@
--- `planner::planning::plan_table` meets its contract.
+-- `planning::plan_table` meets its contract.
 use Prim.Native.Nat.{ℕ, ◌≤◌}
 use Rattle.std.specs.Prelude.{ℤ}
 use mathlib.Core.Path.{◌≡◌, sym, ◌∙◌}

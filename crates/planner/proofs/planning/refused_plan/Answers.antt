@@ -1,4 +1,4 @@
--- `planner::planning::refused_plan` meets its contract.
+-- `planning::refused_plan` meets its contract.
 use mathlib.Core.Path.{refl}
 use Rattle.numbers.specs.Lists.{padded}
 use Rattle.numbers.specs.Ranges.{most_variables}

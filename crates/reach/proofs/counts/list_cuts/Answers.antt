@@ -1,4 +1,4 @@
--- `reach_counts::list_cuts` meets its contract. The loop's invariant: the cuts before h are listed.
+-- `counts::list_cuts` meets its contract. The loop's invariant: the cuts before h are listed.
 use Prim.Native.Nat.{suc, ◌≤◌}
 use mathlib.Core.Path.{◌≡◌, refl, sym, ◌∙◌, ap}
 use native.Mathlib.Numerals.{add-one}

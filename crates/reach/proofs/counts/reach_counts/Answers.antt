@@ -1,4 +1,4 @@
--- `reach_counts::reach_counts` meets its contract.
+-- `counts::reach_counts` meets its contract.
 use Prim.Native.Nat.{◌≤◌}
 use native.Mathlib.Numerals.{add-one}
 use native.Mathlib.Omega.{arith}

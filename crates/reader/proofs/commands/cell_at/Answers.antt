@@ -1,4 +1,4 @@
--- `command_reader::cell_at` meets its contract, operand by operand.
+-- `commands::cell_at` meets its contract, operand by operand.
 use Rattle.image.specs.Inner.Kinds.{width_of}
 use Rattle.image.specs.Reader.{command_at}
 use Rattle.reader.proofs.commands.cell_at.Goals as goal

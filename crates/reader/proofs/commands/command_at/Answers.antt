@@ -1,4 +1,4 @@
--- `command_reader::command_at` meets its contract, kind by kind.
+-- `commands::command_at` meets its contract, kind by kind.
 use mir.Syntax.{w32}
 use mathlib.Core.Path.{◌∙◌, ap, ap₂}
 use native.Mathlib.Omega.{arith}

@@ -1,4 +1,4 @@
--- `command_reader::command_size` meets its contract, kind by kind.
+-- `commands::command_size` meets its contract, kind by kind.
 use mathlib.Core.Path.{sym, ap}
 use Rattle.image.specs.Inner.Kinds.{due_of}
 use Rattle.image.specs.Reader.{due_size}

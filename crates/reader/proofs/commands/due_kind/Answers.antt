@@ -1,4 +1,4 @@
--- `command_reader::due_kind` meets its contract, test by test.
+-- `commands::due_kind` meets its contract, test by test.
 use mathlib.Core.Path.{sym}
 use Rattle.image.specs.Inner.Kinds.{due_of}
 use Rattle.image.proofs.Laws.Due.{due_table, due_word, due_cell, due_end}

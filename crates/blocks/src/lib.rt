@@ -25,10 +25,7 @@ pub struct Common {
 pub fn first_value(values: &[i32]) -> i32
     ensures { result ≡ first values.now }
 {
-    if values.len() == 0 {
-        return 0;
-    }
-    values[0]
+    values.first().copied().unwrap_or(0)
 }
 
 // Number k of cut h in a row of all cuts.

@@ -8,6 +8,7 @@ ghost use Rattle.diagram.specs.Inner.Building.{fork_of, ClassOfCut, Forking};
 ghost use Rattle.diagram.specs.Records.{branches};
 
 use diagram::Fork;
+use diagram::cuts::Cuts;
 
 // The weight of block j, whose halves have height i.
 fn weight_of_block(table: &[i32], i: usize, j: usize) -> i32
@@ -31,6 +32,7 @@ fn block_branches(table: &[i32], i: usize, j: usize) -> bool
 }
 
 // Whether class c of cut h branches, seen at its first block.
+// Kept: a table and a row side by side, since it does not read all that `Cuts` asks for.
 pub fn class_branches(n: usize, h: usize, c: usize, table: &[i32], firsts: &[usize]) -> bool
     requires { ClassOfCut n h c table.now firsts.now }
     ensures { result ≡ branches (n - suc h) (class_at n table.now h c) }
@@ -40,26 +42,18 @@ pub fn class_branches(n: usize, h: usize, c: usize, table: &[i32], firsts: &[usi
 }
 
 // The fork of class c of cut h, read at the class's first block.
-pub(crate) fn fork_at(
-    n: usize,
-    h: usize,
-    c: usize,
-    table: &[i32],
-    classes: &[usize],
-    firsts: &[usize],
-    row: &[usize],
-) -> Fork
-    requires { Forking n h c table.now classes.now firsts.now row.now }
-    ensures { result ≡ fork_of n table.now (n - suc h) (class_at n table.now h c) }
+pub(crate) fn fork_at(cuts: &Cuts, h: usize, c: usize, row: &[usize]) -> Fork
+    requires { Forking cuts.now.n h c cuts.now.table.now row.now }
+    ensures { result ≡ fork_of cuts.now.n cuts.now.table.now (cuts.now.n - suc h) (class_at cuts.now.n cuts.now.table.now h c) }
 {
-    let j = blocks::in_cut(firsts, h, c);
-    let low = blocks::in_cut(classes, h + 1, j * 2);
-    let high = blocks::in_cut(classes, h + 1, j * 2 + 1);
-    let weight = weight_of_block(table, n - (h + 1), j);
+    let j = blocks::in_cut(cuts.firsts, h, c);
+    let low = blocks::in_cut(cuts.classes, h + 1, j * 2);
+    let high = blocks::in_cut(cuts.classes, h + 1, j * 2 + 1);
+    let weight = weight_of_block(cuts.table, cuts.n - (h + 1), j);
     Fork {
         low: blocks::in_cut(row, h + 1, low),
         high: blocks::in_cut(row, h + 1, high),
         weight,
-        branching: class_branches(n, h, c, table, firsts),
+        branching: class_branches(cuts.n, h, c, cuts.table, cuts.firsts),
     }
 }

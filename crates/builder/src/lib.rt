@@ -9,14 +9,12 @@ mod recorder;
 ghost use Rattle.diagram.specs.Build.{Builds};
 
 use diagram::Built;
-use numbers::Checked;
+use numbers::Refusal;
 
 // The reduced diagram of a table: its records in the lent buffer, its node count and its offset.
-pub fn build(n: usize, table: &[i32], nodes: &mut [i32]) -> Built
+pub fn build(n: usize, table: &[i32], nodes: &mut [i32]) -> Result<Built, Refusal>
     ensures { Builds n table.now nodes.old result nodes.new }
 {
-    match diagram::tables::check_table(n, table) {
-        Checked::Refused(number) => Built::Refused(number),
-        Checked::Passed => building::build_checked(n, table, nodes),
-    }
+    diagram::tables::check_table(n, table)?;
+    building::build_checked(n, table, nodes)
 }

@@ -3,6 +3,8 @@ ghost use Rattle.std.specs.Prelude.{◌≡◌, ◌+◌, ◌-◌, ◌<◌, length
 ghost use Rattle.blocks.specs.Rows.{cut_place};
 ghost use Rattle.diagram.specs.Inner.Building.{Forking, RecordRoom, ClassPlaced, CutReady, CutRecorded};
 
+use diagram::cuts::Cuts;
+
 // Number k of cut h in a row of all cuts is set.
 fn set_in_cut(row: &mut [usize], h: usize, k: usize, number: usize)
     requires { (h < 64) × (cut_place h + k < length row.old) }
@@ -14,60 +16,42 @@ fn set_in_cut(row: &mut [usize], h: usize, k: usize, number: usize)
 
 // Class c of cut h gets its node: that of its lower half where it does not branch, else a new record behind those made.
 fn place_class(
-    n: usize,
+    cuts: &Cuts,
     h: usize,
     c: usize,
     made: usize,
-    table: &[i32],
-    classes: &[usize],
-    firsts: &[usize],
     row: &mut [usize],
     nodes: &mut [i32],
 ) -> usize
-    requires forking { Forking n h c table.now classes.now firsts.now row.old }
-    requires record_room { RecordRoom n h c made table.now nodes.old }
-    ensures { ClassPlaced n h c made table.now row.old nodes.old result row.new nodes.new }
+    requires forking { Forking cuts.now.n h c cuts.now.table.now row.old }
+    requires record_room { RecordRoom cuts.now.n h c made cuts.now.table.now nodes.old }
+    ensures { ClassPlaced cuts.now.n h c made cuts.now.table.now row.old nodes.old result row.new nodes.new }
 {
-    let fork = crate::forks::fork_at(n, h, c, table, classes, firsts, row);
+    let fork = crate::forks::fork_at(cuts, h, c, row);
     if !fork.branching {
         set_in_cut(row, h, c, fork.low);
         return made;
     }
-    let range = crate::ranges::class_range(n, h, c, table, firsts);
-    diagram::records::write_record(
-        nodes,
-        made,
-        n - (h + 1),
-        fork.low,
-        fork.high,
-        fork.weight,
-        range.least,
-        range.greatest,
-    );
+    let range = crate::ranges::class_range(cuts, h, c);
+    diagram::records::write_record(nodes, made, cuts.n - (h + 1), fork, range);
     set_in_cut(row, h, c, made + 1);
     made + 1
 }
 
 // The classes of cut h get their nodes, and their records stand behind those made.
 pub(crate) fn place_cut(
-    n: usize,
+    cuts: &Cuts,
     h: usize,
-    count: usize,
     before: usize,
-    table: &[i32],
-    classes: &[usize],
-    firsts: &[usize],
     row: &mut [usize],
     nodes: &mut [i32],
 ) -> usize
-    requires { CutReady n h count before table.now classes.now firsts.now row.old nodes.old }
-    ensures { CutRecorded n h before table.now row.old nodes.old result row.new nodes.new }
+    requires { CutReady cuts.now.n h before cuts.now.table.now row.old nodes.old }
+    ensures { CutRecorded cuts.now.n h before cuts.now.table.now row.old nodes.old result row.new nodes.new }
 {
     let mut made = before;
-    let mut c = 0;
-    while c < count {
-        made = place_class(n, h, c, made, table, classes, firsts, row, nodes);
-        c += 1;
+    for c in 0..cuts.class_count(h) {
+        made = place_class(cuts, h, c, made, row, nodes);
     }
     made
 }

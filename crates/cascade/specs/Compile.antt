@@ -1,14 +1,15 @@
 -- Compile: its outcome, the cells beside it, and what the image buffer then holds.
-use Rattle.std.specs.Prelude.{ℕ, ◌≡◌, List, length, take, leb, ℤ}
-use Rattle.numbers.specs.Answers.{Answer, accepted, refused, unless, map_answer, and_then, buffer_after}
+use Rattle.std.specs.Prelude.{ℕ, ◌≡◌, List, length, take, leb, replicate, ℤ, Result, Ok, Err}
+use Rattle.numbers.specs.Answers.{Answer, accepted, unless, map_answer, and_then, buffer_after}
+use Rattle.numbers.specs.Refusals.{answer_of}
+use Rattle.numbers.specs.declared.Refusal.{Refusal}
+use Rattle.numbers.specs.Ranges.{most_variables}
 use Rattle.diagram.specs.Records.{node_count}
 use Rattle.image.specs.Commands.{image_of}
 use Rattle.cascade.specs.Cascade.{card_for}
-use Rattle.cascade.specs.Plan.{plan, Totals, totals, cell_array}
+use Rattle.cascade.specs.Plan.{plan, Totals, totals, cell_array, no_cell}
 use Rattle.cascade.specs.declared.Cell.{Cell as PlanCell}
 use Rattle.cascade.specs.declared.Compiled.{Compiled}
-use Rattle.cascade.specs.declared.Outcome.{Outcome}
-use Rattle.cascade.specs.declared.Outcome.TheVariants.{Image, Refused}
 
 -- The bytes of the image of a grouping.
 unfoldable pub image_for : ℕ → List ℤ → List ℕ → List ℕ
@@ -43,13 +44,17 @@ compile_buffer n table limit buffer = buffer_after (compile n table limit (lengt
 unfoldable pub compiled_image : ImageSummary → List ℕ → List ℕ
 compiled_image r buffer = take r.image_length buffer
 
--- The paper's answer that a value of the enum stands for.
-unfoldable pub outcome : Outcome → Answer ImageSummary
-outcome (Image bytes nodes cells bits) = accepted (record { image_length = bytes; nodes = nodes; planned = record { cells = cells; bits = bits } })
-outcome (Refused number) = refused number
+-- The paper's answer that a result stands for.
+unfoldable pub outcome : Result Compiled Refusal → Answer ImageSummary
+outcome result = map_answer (λ (c : Compiled). record { image_length = c.length; nodes = c.nodes; planned = record { cells = c.count; bits = c.bits } }) (answer_of result)
 
--- Compile's promise: its outcome, the cells beside it, and what its buffer then holds.
-pub record Compiles (n : ℕ) (table : List ℤ) (limit : ℕ) (buffer : List ℕ) (answer : Compiled) (buffer' : List ℕ) : Type 0 where
-  pub answered : outcome answer.outcome ≡ compile_answer n table limit (length buffer)
-  pub priced : answer.cells ≡ compile_cells n table limit (length buffer)
+-- The cells that a result stands for: a refusal's are all 0.
+unfoldable pub compiled_cells : Result Compiled Refusal → List PlanCell
+compiled_cells (Ok compiled) = compiled.cells
+compiled_cells (Err refusal) = replicate most_variables no_cell
+
+-- Compile's promise: its answer, the cells beside it, and what its buffer then holds.
+pub record Compiles (n : ℕ) (table : List ℤ) (limit : ℕ) (buffer : List ℕ) (answer : Result Compiled Refusal) (buffer' : List ℕ) : Type 0 where
+  pub answered : outcome answer ≡ compile_answer n table limit (length buffer)
+  pub priced : compiled_cells answer ≡ compile_cells n table limit (length buffer)
   pub left : buffer' ≡ compile_buffer n table limit buffer

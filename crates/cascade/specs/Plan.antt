@@ -1,6 +1,8 @@
 -- Plan: its verdict, and what the arrays beside it hold.
-use Rattle.std.specs.Prelude.{ℕ, ◌+◌, ◌≡◌, List, [], ◌∷◌, length, ℤ}
+use Rattle.std.specs.Prelude.{ℕ, ◌+◌, ◌≡◌, List, [], ◌∷◌, length, ℤ, Result}
 use Rattle.numbers.specs.Answers.{Answer, accepted, refused, unless, map_answer}
+use Rattle.numbers.specs.Refusals.{answer_of}
+use Rattle.numbers.specs.declared.Refusal.{Refusal}
 use Rattle.numbers.specs.Lists.{padded}
 use Rattle.numbers.specs.Ranges.{is_limit, most_variables}
 use Rattle.blocks.specs.Uses.{commonest_at}
@@ -10,9 +12,8 @@ use Rattle.image.specs.Cells.{Cell, bits_of, total_bits}
 use Rattle.cascade.specs.Cascade.{cell_of, cells_from}
 use Rattle.cascade.specs.Groupings.{chosen}
 use Rattle.cascade.specs.declared.Cell.{Cell as PlanCell}
+use Rattle.cascade.specs.declared.Grouping.{Grouping}
 use Rattle.cascade.specs.declared.Planned.{Planned}
-use Rattle.cascade.specs.declared.Verdict.{Verdict}
-use Rattle.cascade.specs.declared.Verdict.TheVariants.{Grouping, Refused}
 
 -- Plan's answer: the chosen sizes, or a refusal.
 unfoldable pub plan : ℕ → List ℤ → ℕ → Answer (List ℕ)
@@ -61,10 +62,9 @@ totals n table sizes = record { cells = length sizes; bits = total_bits (cells_f
 unfoldable pub plan_answer : ℕ → List ℤ → ℕ → Answer Totals
 plan_answer n table limit = map_answer (totals n table) (plan n table limit)
 
--- The paper's answer that a value of the enum stands for.
-unfoldable pub judgement : Verdict → Answer Totals
-judgement (Grouping cells bits) = accepted (record { cells = cells; bits = bits })
-judgement (Refused number) = refused number
+-- The paper's answer that a verdict stands for.
+unfoldable pub judgement : Result Grouping Refusal → Answer Totals
+judgement verdict = map_answer (λ (g : Grouping). record { cells = g.cells; bits = g.bits }) (answer_of verdict)
 
 -- Plan's promise: its verdict, and what the arrays beside it hold, 0 past the last entry and all 0 in a refusal.
 pub record Plans (n : ℕ) (table : List ℤ) (limit : ℕ) (answer : Planned) : Type 0 where

@@ -4,6 +4,8 @@
 pub mod cell_rows;
 pub mod words;
 
+use numbers::Refusal;
+
 // The most cells that a grouping can have: one for each variable.
 pub const MOST_CELLS: usize = numbers::MOST_VARIABLES;
 
@@ -31,43 +33,36 @@ pub const NO_CELL: Cell = Cell {
     uses: 0,
 };
 
-// Plan's verdict: the number of cells and their memory bits.
+// A grouping that was found: how many cells it has, and their memory bits.
 #[derive(Clone, Copy)]
-pub enum Verdict {
-    Grouping { cells: usize, bits: usize },
-    Refused(u8),
+pub struct Grouping {
+    pub cells: usize,
+    pub bits: usize,
 }
 
-// Plan's answer: the verdict beside the sizes and the cells, which hold 0 past the last one.
+// Plan's answer: the verdict beside the sizes and the cells, which hold 0 past the last one, and all 0 in a refusal.
+// Kept: the paper fixes this form, a verdict beside arrays.
 #[derive(Clone, Copy)]
 pub struct Planned {
-    pub verdict: Verdict,
+    pub verdict: Result<Grouping, Refusal>,
     pub sizes: [usize; MOST_CELLS],
     pub cells: [Cell; MOST_CELLS],
 }
 
-// Compile's verdict: the image's length, the node count, the number of cells and their memory bits.
-#[derive(Clone, Copy)]
-pub enum Outcome {
-    Image {
-        length: usize,
-        nodes: usize,
-        cells: usize,
-        bits: usize,
-    },
-    Refused(u8),
-}
-
-// Compile's answer: the outcome beside Plan's cells, all 0 in a refusal. The image stands in the lent buffer.
+// Compile's answer: the image's length, the node count, and Plan's cells with their count and their bits. The image stands in the
+// lent buffer.
 #[derive(Clone, Copy)]
 pub struct Compiled {
-    pub outcome: Outcome,
+    pub length: usize,
+    pub nodes: usize,
+    pub count: usize,
+    pub bits: usize,
     pub cells: [Cell; MOST_CELLS],
 }
 
-// The choice at a cut: no list of sizes from there on fits, or the least cost of one and the first size to take.
+// The choice at a cut: the least cost of a list of sizes from there on, and the first size to take.
 #[derive(Clone, Copy)]
-pub enum Choice {
-    NoList,
-    Costing { cost: usize, size: usize },
+pub struct Choice {
+    pub cost: usize,
+    pub size: usize,
 }

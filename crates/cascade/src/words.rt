@@ -12,6 +12,7 @@ fn word_block(h: usize, g: usize, k: usize, firsts: &[usize]) -> usize
     blocks::in_cut(firsts, h, k / values) * values + k % values
 }
 
+// Kept: a table and its rows side by side, here and in word_class, since neither reads all that `Cuts` asks for.
 // The weight of word k: the first value of its block less that of the block at cut h around it.
 pub fn word_weight(n: usize, h: usize, g: usize, k: usize, table: &[i32], firsts: &[usize]) -> i32
     requires { WordReady n h g k table.now firsts.now }

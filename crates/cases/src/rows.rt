@@ -1,7 +1,11 @@
-// What rows hold: the numbers of an answer in front, and behind them what no answer may change; here what stands at single places.
-ghost use Rattle.std.specs.Prelude.{◌≡◌, ◌<◌, slice_index_or};
+// What rows hold: the numbers of an answer in front, and behind them what no answer may change; here what stands at single places, and
+// whether an answer is the expected one.
+ghost use Rattle.std.specs.Prelude.{◌≡◌, ◌<◌, Bool, slice_index_or, Ok};
+ghost use Rattle.numbers.specs.Refusals.{answer_of};
 ghost use Rattle.numbers.specs.Ranges.{eq_z};
-ghost use Rattle.cases.specs.Rows.{size_at, two_sizes_are};
+ghost use Rattle.cases.specs.Rows.{size_at, answer_is, Tells};
+
+use numbers::Refusal;
 
 // The number at a place of a row, and another past its last.
 pub(crate) fn number_at(row: &[i32], at: usize, past: i32) -> i32
@@ -25,9 +29,17 @@ pub(crate) fn is_at(row: &[i32], at: usize, past: i32, number: i32) -> bool
     number == number_at(row, at, past)
 }
 
-// Whether a case expects no refusal and these two sizes: its numbers from place 3 on.
-pub(crate) fn two_sizes_are(numbers: &[i32], first: usize, second: usize) -> bool
-    ensures { result ≡ two_sizes_are numbers.now first second }
+// Whether an answer is the expected one: where no refusal is expected, what was found passes the test, else it is that refusal.
+pub(crate) fn answer_is<T: Copy, F: FnOnce(T) -> bool>(
+    refusal: usize,
+    answer: Result<T, Refusal>,
+    test: F,
+) -> bool
+    requires { (found : T) → answer ≡ Ok found → F.pre test found }
+    ensures { (passes : T → Bool) → Tells answer (F.post test) passes → result ≡ answer_is refusal passes (answer_of answer) }
 {
-    size_at(numbers, 3) == 0 && (size_at(numbers, 4) == first && size_at(numbers, 5) == second)
+    match answer {
+        Ok(found) => refusal == 0 && test(found),
+        Err(number) => refusal == usize::from(u8::from(number)),
+    }
 }

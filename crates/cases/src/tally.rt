@@ -13,19 +13,19 @@ impl Tally {
     pub fn note(self, rt: &impl Print, title: &[u8], passed: bool) -> Tally
         ensures { result ≡ noted self passed }
     {
+        let head: &[u8] = if passed { b"ok " } else { b"FAILED " };
+        let _ = rt.write_all(head);
+        let _ = rt.write_all(title);
         if passed {
-            let _ = rt.write_all(b"ok ");
-            let _ = rt.write_all(title);
-            return Tally {
+            Tally {
                 passed: self.passed.wrapping_add(1),
                 failed: self.failed,
-            };
-        }
-        let _ = rt.write_all(b"FAILED ");
-        let _ = rt.write_all(title);
-        Tally {
-            passed: self.passed,
-            failed: self.failed.wrapping_add(1),
+            }
+        } else {
+            Tally {
+                passed: self.passed,
+                failed: self.failed.wrapping_add(1),
+            }
         }
     }
 

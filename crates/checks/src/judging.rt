@@ -22,6 +22,7 @@ use cases::tally::Tally;
 fn judge_rows(numbers: &[i32], first: &[i32], second: &[i32], third: &[i32]) -> bool
     ensures { result ≡ rows_pass numbers.now first.now second.now third.now }
 {
+    // Kept: the numbers stand in the text of the cases, and a table of closures would name each operation once more.
     match cases::rows::size_at(numbers, 0) {
         1 => cases::diagrams::build(numbers, first, second),
         2 => cases::diagrams::walk(numbers, first),
@@ -67,6 +68,7 @@ pub(crate) fn judge_all(rt: &impl Print, cases: &[u8]) {
         failed: 0,
     };
     let mut at = 0;
+    // Kept: each turn takes the two lines of a case.
     while at < cases.len() {
         let numbers = cases::case_lines::behind_line(cases, at);
         let next = cases::case_lines::behind_line(cases, numbers);

@@ -4,24 +4,14 @@
 
 mod judging;
 
-ghost use Rattle.stdin.specs.Input.{Keeps};
-
-use stdin::Input;
-
 // No less than the bytes of all cases.
 const KEPT: usize = 262144;
 
-// Reads to the end of the input and keeps its first bytes.
-fn read_cases(rt: &impl std::io::Input, buffer: &mut [u8; KEPT]) -> Input
-    ensures { Keeps 262144 buffer.new result }
-{
-    stdin::read_all(rt, buffer)
-}
-
+#[tactic(auto, unfolding(stdin::specs::Input::KeptWithin))]
 fn main(rt: HostRuntime) {
     let mut buffer = [0u8; KEPT];
-    let Input::Kept(count) = read_cases(&rt, &mut buffer) else {
-        let _ = rt.eprint("checks: cannot read standard input\n");
+    let Ok(count) = stdin::read_whole(&rt, &mut buffer) else {
+        let _ = eprintln!(rt; "checks: cannot read standard input");
         return;
     };
     judging::judge_all(&rt, &buffer[..count]);

@@ -10,17 +10,13 @@ use blocks::Common;
 fn commonest(use_counts: &[usize]) -> Common
     ensures { result ≡ commonest use_counts.now }
 {
-    let mut class = 0;
-    let mut uses = 0;
-    let mut k = 0;
-    while k < use_counts.len() {
-        if uses < use_counts[k] {
-            class = k;
-            uses = use_counts[k];
+    let mut common = Common { class: 0, uses: 0 };
+    for (class, uses) in use_counts.iter().enumerate() {
+        if common.uses < *uses {
+            common = Common { class, uses: *uses };
         }
-        k += 1;
     }
-    Common { class, uses }
+    common
 }
 
 // The commonest of the first so many classes of cut h, from a row of the use counts of all cuts.

@@ -5,10 +5,11 @@ ghost use Rattle.classes.specs.Inner.Finding.{cut_lists, found_at, BlocksBefore}
 ghost use Rattle.classes.specs.Inner.Noting.{latest_class, count_noted, firsts_noted, uses_noted, cut_rows};
 ghost use Rattle.classes.specs.Inner.Classing.{CutRoom, CutClassed};
 
-use crate::search::Found;
+use crate::search::{Found, Known};
 
 // What the search finds for block j of a cut. Its first block has a new class, that of the whole table at cut 0; any other is a half of
 // a block of the cut above, the upper half being the part that begins in that block's middle.
+// Kept: row by row, since at a cut's first block there is no `Known` yet.
 fn find_block(
     table: &[i32],
     size: usize,
@@ -30,11 +31,16 @@ fn find_block(
     }
     let start = j / 2 * (2 * size);
     let end = start + 2 * size;
-    let above = &table[start..end];
-    let middle = above.len() / 2;
-    let from = if j % 2 == 0 { 0 } else { middle };
-    let to = from + middle;
-    crate::search::find_class(table, size, firsts, use_counts, latest, &above[from..to])
+    let (lower, upper) = table[start..end].split_at(size);
+    let half = if j % 2 == 0 { lower } else { upper };
+    let known = Known {
+        table,
+        size,
+        firsts,
+        use_counts,
+        latest,
+    };
+    known.find_class(half)
 }
 
 // The latest class at block j: that of the block just before, and 0 at the first block, where no class is known.
@@ -42,10 +48,7 @@ fn latest_class(classes: &[usize], j: usize) -> usize
     requires { j ≤ length classes.now }
     ensures { result ≡ latest_class classes.now j }
 {
-    if j == 0 {
-        return 0;
-    }
-    classes[j - 1]
+    classes[..j].last().copied().unwrap_or(0)
 }
 
 // The first block of a new class is noted behind those known, in a row of one place for each block so far.
@@ -72,6 +75,7 @@ fn note_uses(use_counts: &mut [usize], j: usize, class: usize, uses: usize)
 
 // The classes of a cut whose blocks have this size: each block's class, each class's first block, how many classes were tried for
 // each block and how many blocks up to it have its class, each class's use count, and the class count.
+// Kept: rows side by side, since each is lent to be written into.
 pub(crate) fn class_cut(
     table: &[i32],
     size: usize,
@@ -85,8 +89,7 @@ pub(crate) fn class_cut(
     ensures { CutClassed table.now size (length classes.old) (cut_rows result classes.new firsts.new tried.new uses.new use_counts.new) }
 {
     let mut count = 0;
-    let mut j = 0;
-    while j < classes.len() {
+    for j in 0..classes.len() {
         let latest = latest_class(classes, j);
         let found = find_block(
             table,
@@ -101,7 +104,6 @@ pub(crate) fn class_cut(
         uses[j] = found.uses;
         note_uses(use_counts, j, found.class, found.uses);
         count = note_first(firsts, count, j, found.class);
-        j += 1;
     }
     count
 }

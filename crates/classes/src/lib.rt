@@ -13,6 +13,7 @@ ghost use Rattle.classes.specs.Inner.Searched.{SearchRoom, AllSearched};
 
 // The classes of all cuts: each block's class, each class's first block, the class count of each cut, and what the search tells of
 // each block and of each class.
+// Kept: a row beside each other, as the C interface lends them.
 pub fn class_cuts(
     n: usize,
     table: &[i32],
@@ -28,8 +29,7 @@ pub fn class_cuts(
     ensures all_classed { AllClassed n table.now classes.new firsts.new counts.new }
     ensures all_searched { AllSearched n table.now tried.new uses.new use_counts.new }
 {
-    let mut h = 0;
-    while h <= n {
+    for h in 0..n + 1 {
         // Cut h has 2^h blocks, and stands in the rows of all cuts from place 2^h - 1 on.
         let count = numbers::arithmetic::power(h);
         let size = numbers::arithmetic::power(n - h);
@@ -44,7 +44,6 @@ pub fn class_cuts(
             &mut uses[start..end],
             &mut use_counts[start..end],
         );
-        h += 1;
     }
 }
 

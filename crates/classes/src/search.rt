@@ -1,9 +1,9 @@
 // The class of a block among those known, how many of them are tried until it is found, and how many blocks have it so far.
-ghost use Rattle.std.specs.Prelude.{◌≡◌, ◌+◌, ◌*◌, ◌≤◌, length};
+ghost use Rattle.std.specs.Prelude.{◌≡◌, ◌≤◌, ◌<◌, length, get_or};
 ghost use Rattle.blocks.specs.Blocks.{differences};
 ghost use Rattle.blocks.specs.Classes.{same};
 ghost use Rattle.blocks.specs.Inner.Layout.{part};
-ghost use Rattle.classes.specs.Inner.Searching.{part_differences, PartsWithin, first_between, KnownClasses, looked_up, uses_with, SmallCounts, found_among};
+ghost use Rattle.classes.specs.Inner.Searching.{part_differences, found_between, KnownClasses, looked_up, uses_with, SmallCounts, found_among};
 
 // A class that was looked up, and how many classes were tried, that one included.
 #[derive(Clone, Copy)]
@@ -21,120 +21,108 @@ pub(crate) struct Found {
     pub uses: usize,
 }
 
-// Whether part j of a table has the differences of these values.
-fn same_part(table: &[i32], size: usize, j: usize, values: &[i32]) -> bool
-    requires { j * size + size ≤ length table.now }
-    ensures { result ≡ same (differences (part table.now size j)) (differences values.now) }
+// Whether two blocks that are likely to differ have equal differences: the last differences tell most blocks apart.
+fn same_other(left: &[i32], right: &[i32]) -> bool
+    ensures { result ≡ same (differences left.now) (differences right.now) }
 {
-    let start = j * size;
-    let end = start + size;
-    blocks::comparing::same_differences(&table[start..end], values)
+    blocks::comparing::last_difference(left) == blocks::comparing::last_difference(right)
+        && blocks::comparing::same_differences(left, right)
 }
 
-// The same for another class than the latest: its first block is likely to differ, and the last differences tell most blocks apart.
-fn same_other(table: &[i32], size: usize, j: usize, values: &[i32]) -> bool
-    requires { j * size + size ≤ length table.now }
-    ensures { result ≡ same (differences (part table.now size j)) (differences values.now) }
-{
-    let start = j * size;
-    let end = start + size;
-    let there = blocks::comparing::last_difference(&table[start..end]);
-    if there != blocks::comparing::last_difference(values) {
-        return false;
+// The classes known so far, of blocks of one size: the first block of each and how many blocks have it, and the latest class, that of
+// the block just before.
+#[derive(Clone, Copy)]
+pub(crate) struct Known<'a> {
+    pub table: &'a [i32],
+    pub size: usize,
+    pub firsts: &'a [usize],
+    pub use_counts: &'a [usize],
+    pub latest: usize,
+    ghost known: { KnownClasses table.now size firsts.now latest },
+    ghost counted: { SmallCounts use_counts.now },
+}
+
+impl Known<'_> {
+    // The first block of a class.
+    fn first_block(&self, class: usize) -> &[i32]
+        requires { class < length self.now.firsts.now }
+        ensures { result.now ≡ part self.now.table.now self.now.size (get_or self.now.firsts.now class 0) }
+    {
+        let start = self.firsts[class] * self.size;
+        let end = start + self.size;
+        &self.table[start..end]
     }
-    same_part(table, size, j, values)
-}
 
-// The first class from one number on and before another whose first block has the differences of these values; that other number
-// where none has.
-fn find_between(
-    table: &[i32],
-    size: usize,
-    firsts: &[usize],
-    from: usize,
-    to: usize,
-    values: &[i32],
-) -> usize
-    requires { PartsWithin table.now size firsts.now × ((from ≤ to) × (to ≤ length firsts.now)) }
-    ensures { result ≡ first_between (part_differences table.now size firsts.now) from to (differences values.now) }
-{
-    let mut class = from;
-    let found = loop {
-        if class == to {
-            break to;
+    // The first class from one number on and before another whose first block has the differences of these values.
+    fn find_between(&self, from: usize, to: usize, values: &[i32]) -> Option<usize>
+        requires { (from ≤ to) × (to ≤ length self.now.firsts.now) }
+        ensures { result ≡ found_between (part_differences self.now.table.now self.now.size self.now.firsts.now) from to (differences values.now) }
+    {
+        // Kept: the paper fixes this form, a loop that yields the class number by break.
+        let mut class = from;
+        loop {
+            if class == to {
+                break None;
+            }
+            if same_other(self.first_block(class), values) {
+                break Some(class);
+            }
+            class += 1;
         }
-        if same_other(table, size, firsts[class], values) {
-            break class;
+    }
+
+    // The class of a block among the known ones; where none is equal, the next new number. The latest class is tried first, then the
+    // others from class 0 up.
+    fn look_up(&self, values: &[i32]) -> Looked
+        ensures { result ≡ looked_up (part_differences self.now.table.now self.now.size self.now.firsts.now) self.now.latest (differences values.now) }
+    {
+        let known = self.firsts.len();
+        if known == 0 {
+            return Looked { class: 0, tried: 0 };
         }
-        class += 1;
-    };
-    found
-}
+        if blocks::comparing::same_differences(self.first_block(self.latest), values) {
+            return Looked {
+                class: self.latest,
+                tried: 1,
+            };
+        }
+        if let Some(class) = self.find_between(0, self.latest, values) {
+            // The latest, and all up to this one.
+            return Looked {
+                class,
+                tried: class + 2,
+            };
+        }
+        if let Some(class) = self.find_between(self.latest + 1, known, values) {
+            // All up to this one, the latest among them.
+            return Looked {
+                class,
+                tried: class + 1,
+            };
+        }
+        Looked {
+            class: known,
+            tried: known,
+        }
+    }
 
-// The class of a block among the known ones, each given by its first block; where none is equal, the next new number. The latest
-// class, that of the block just before, is tried first, then the others from class 0 up.
-fn look_up(table: &[i32], size: usize, firsts: &[usize], latest: usize, values: &[i32]) -> Looked
-    requires { KnownClasses table.now size firsts.now latest }
-    ensures { result ≡ looked_up (part_differences table.now size firsts.now) latest (differences values.now) }
-{
-    if firsts.len() == 0 {
-        return Looked { class: 0, tried: 0 };
+    // How many blocks have a class with one block more; a class without one is new.
+    fn uses_with(&self, class: usize) -> usize
+        ensures { result ≡ uses_with self.now.use_counts.now class }
+    {
+        self.use_counts.get(class).copied().unwrap_or(0) + 1
     }
-    if same_part(table, size, firsts[latest], values) {
-        return Looked {
-            class: latest,
-            tried: 1,
-        };
-    }
-    let before = find_between(table, size, firsts, 0, latest, values);
-    if before < latest {
-        // The latest, and all up to this one.
-        let tried = before + 2;
-        return Looked {
-            class: before,
-            tried,
-        };
-    }
-    let class = find_between(table, size, firsts, latest + 1, firsts.len(), values);
-    if class < firsts.len() {
-        // All up to this one, the latest among them.
-        let tried = class + 1;
-        return Looked { class, tried };
-    }
-    Looked {
-        class,
-        tried: class,
-    }
-}
 
-// How many blocks have a class with one block more, from the use counts so far; a class without one is new.
-fn uses_with(use_counts: &[usize], class: usize) -> usize
-    requires { SmallCounts use_counts.now }
-    ensures { result ≡ uses_with use_counts.now class }
-{
-    if class < use_counts.len() {
-        return use_counts[class] + 1;
-    }
-    1
-}
-
-// The class of a block among the known ones, each given by its first block and by how many blocks have it so far; where none is
-// equal, the next new number.
-pub(crate) fn find_class(
-    table: &[i32],
-    size: usize,
-    firsts: &[usize],
-    use_counts: &[usize],
-    latest: usize,
-    values: &[i32],
-) -> Found
-    requires { KnownClasses table.now size firsts.now latest × SmallCounts use_counts.now }
-    ensures { result ≡ found_among (part_differences table.now size firsts.now) use_counts.now latest (differences values.now) }
-{
-    let looked = look_up(table, size, firsts, latest, values);
-    Found {
-        class: looked.class,
-        tried: looked.tried,
-        uses: uses_with(use_counts, looked.class),
+    // The class of a block among the known ones, how many of them are tried until it is found, and how many blocks have it then; where
+    // none is equal, it is the next new number.
+    pub(crate) fn find_class(&self, values: &[i32]) -> Found
+        ensures { result ≡ found_among (part_differences self.now.table.now self.now.size self.now.firsts.now) self.now.use_counts.now self.now.latest (differences values.now) }
+    {
+        let looked = self.look_up(values);
+        Found {
+            class: looked.class,
+            tried: looked.tried,
+            uses: self.uses_with(looked.class),
+        }
     }
 }

@@ -1,5 +1,5 @@
 // The length of an image, from its planned cells.
-ghost use Rattle.std.specs.Prelude.{◌≡◌, take};
+ghost use Rattle.std.specs.Prelude.{◌≡◌, ◌*◌, ◌^◌};
 ghost use Rattle.compiler.specs.Inner.Lengths.{planned_bytes, planned_length, SmallCell, SmallCells};
 
 use cascade::Cell;
@@ -7,25 +7,26 @@ use cascade::Cell;
 // The bytes before the cells and behind them.
 const AROUND_CELLS: usize = image::TABLE_SIZE + image::END_SIZE;
 
-// The bytes of a cell: its command and its words.
-fn cell_length(cell: Cell) -> usize
-    requires { SmallCell cell }
-    ensures { result ≡ planned_bytes cell }
+// The words of a cell: one for each incoming class and group value.
+pub(crate) fn word_count(cell: &Cell) -> usize
+    requires { SmallCell cell.now }
+    ensures { result ≡ cell.now.incoming * 2 ^ cell.now.group }
 {
-    image::CELL_SIZE + image::WORD_SIZE * (cell.incoming * (1 << cell.group))
+    cell.incoming * numbers::arithmetic::power(cell.group)
 }
 
-// The bytes of the image of the first so many cells.
-pub(crate) fn image_length(cells: [Cell; cascade::MOST_CELLS], count: usize) -> usize
-    requires { SmallCells cells count }
-    ensures { result ≡ planned_length (take count cells) }
+// The bytes of a cell: its command and its words.
+pub(crate) fn cell_length(cell: &Cell) -> usize
+    requires { SmallCell cell.now }
+    ensures { result ≡ planned_bytes cell.now }
 {
-    let mut length = AROUND_CELLS;
-    let mut k = 0;
-    while k < count {
-        let cell = cells[k];
-        length += cell_length(cell);
-        k += 1;
-    }
-    length
+    image::CELL_SIZE + image::WORD_SIZE * word_count(cell)
+}
+
+// The bytes of the image of these cells.
+pub(crate) fn image_length(cells: &[Cell]) -> usize
+    requires { SmallCells cells.now }
+    ensures { result ≡ planned_length cells.now }
+{
+    AROUND_CELLS + cells.iter().map(cell_length).sum::<usize>()
 }

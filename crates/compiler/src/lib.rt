@@ -10,11 +10,13 @@ mod words;
 
 ghost use Rattle.cascade.specs.Compile.{Compiles};
 
-use cascade::{Compiled, Verdict};
+use cascade::Compiled;
+use diagram::cuts::Cuts;
+use numbers::Refusal;
 
 // Compile: the image of the chosen grouping in the lent buffer, its length, the node count, Plan's cells and bits, or a
-// refusal. Plan's verdict is taken apart before any byte is written, and the classes are worked out once.
-pub fn compile(n: usize, table: &[i32], limit: usize, image: &mut [u8]) -> Compiled
+// refusal. Plan's refusal is handed on before any byte is written, and the classes are worked out once.
+pub fn compile(n: usize, table: &[i32], limit: usize, image: &mut [u8]) -> Result<Compiled, Refusal>
     ensures { Compiles n table.now limit image.old result image.new }
 {
     let mut classes = [0usize; blocks::ALL_PLACES];
@@ -28,12 +30,17 @@ pub fn compile(n: usize, table: &[i32], limit: usize, image: &mut [u8]) -> Compi
         &mut firsts,
         &mut counts,
     );
-    let verdict = planned.verdict;
-    let Verdict::Grouping { cells, bits } = verdict else {
-        return crate::placing::not_compiled(crate::placing::refusal(verdict));
+    // Kept: the paper fixes this form, a verdict taken apart by let else before any byte is written.
+    let Ok(grouping) = planned.verdict else {
+        return Err(planned.verdict.unwrap_err());
     };
-    let list = planned.cells;
-    crate::placing::place_table(
-        n, list, cells, bits, table, &classes, &firsts, &counts, image,
-    )
+    let places = numbers::arithmetic::power(n + 1) - 1;
+    let cuts = Cuts {
+        n,
+        table,
+        classes: &classes[..places],
+        firsts: &firsts[..places],
+        counts: &counts[..=n],
+    };
+    placing::place_image(&cuts, grouping, &planned.cells, image)
 }

@@ -1,5 +1,5 @@
 -- What a text gives: a table, or the first line on which something else was expected, and what.
-use Rattle.std.specs.Prelude.{ℕ, zero, suc, ◌+◌, ◌*◌, ◌^◌, ◌≡◌, Bool, true, false, ◌&&◌, cond, length, drop, leb, eqb, ℤ, pos, neg_ℤ}
+use Rattle.std.specs.Prelude.{ℕ, zero, suc, ◌+◌, ◌*◌, ◌^◌, ◌≡◌, Bool, true, false, ◌&&◌, cond, length, drop, leb, eqb, ℤ, pos, neg_ℤ, Result, Ok, Err}
 use mathlib.Core.List.{List, [], ◌∷◌, ◌++◌, flat_map}
 use Rattle.std.specs.Int.Signed.{mag}
 use Rattle.numbers.specs.Ranges.{most_variables}
@@ -8,8 +8,8 @@ use Rattle.decimal.specs.Words.{Word, words, last_line}
 use Rattle.decimal.specs.Numbers.{number_of, is_number_from}
 use Rattle.decimal.specs.declared.Expected.{Expected}
 use Rattle.decimal.specs.declared.Expected.TheVariants.{Variables, Limit, LineEnd, Value, TextEnd}
-use Rattle.decimal.specs.declared.Parsed.{Parsed}
-use Rattle.decimal.specs.declared.Parsed.TheVariants.{Input, Wrong, TooShort}
+use Rattle.decimal.specs.declared.ParseError.{ParseError}
+use Rattle.decimal.specs.declared.ParseError.TheVariants.{Wrong, TooShort}
 
 -- The number that a refusal of a text prints: 1 to 14 and those that follow them are the paper's.
 unfoldable pub refusal_number : Expected → ℕ
@@ -80,9 +80,9 @@ unfoldable pub input_room : ℕ
 input_room = 2 + 4 * 2 ^ most_variables
 
 -- The answer for what a text gives.
-unfoldable pub parsed : Read Table → Parsed
-parsed (got table) = Input (length (input_of table))
-parsed (wrong line expected) = Wrong line expected
+unfoldable pub parsed : Read Table → Result ℕ ParseError
+parsed (got table) = Ok (length (input_of table))
+parsed (wrong line expected) = Err (Wrong (record { line = line; expected = expected }))
 
 -- What the buffer then holds: the input in front, or what it held.
 unfoldable pub parsed_buffer : Read Table → List ℕ → List ℕ
@@ -90,8 +90,8 @@ parsed_buffer (got table) buffer = input_of table ++ drop (length (input_of tabl
 parsed_buffer (wrong line expected) buffer = buffer
 
 -- The promise of reading a text into a lent buffer; one that does not hold every input is too short, and left alone.
-pub record Reads (text buffer : List ℕ) (answer : Parsed) (buffer' : List ℕ) : Type 0 where
-  pub answered : answer ≡ cond (leb input_room (length buffer)) (parsed (text_read text)) TooShort
+pub record Reads (text buffer : List ℕ) (answer : Result ℕ ParseError) (buffer' : List ℕ) : Type 0 where
+  pub answered : answer ≡ cond (leb input_room (length buffer)) (parsed (text_read text)) (Err TooShort)
   pub left : buffer' ≡ cond (leb input_room (length buffer)) (parsed_buffer (text_read text) buffer) buffer
 
 -- The values in front, so many at most.

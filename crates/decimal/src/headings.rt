@@ -4,41 +4,30 @@ ghost use Rattle.decimal.specs.Table.{has_more};
 ghost use Rattle.decimal.specs.Inner.Positions.{words_at, PositionIn};
 ghost use Rattle.decimal.specs.Inner.Items.{heading_at};
 
-use crate::{Heading, Item, Position};
+use crate::{Heading, Position};
 
 // The next word, where it is a number in this range on the first line.
-pub(crate) fn heading(text: &[u8], at: usize, low: i32, high: i32) -> Heading
+#[tactic(auto, using(crate::proofs::Laws::Items::item_next, crate::proofs::Laws::Items::no_heading, std::proofs::lemmas::Bool::Decides::nat_tests), unfolding(crate::specs::Inner::Items::heading_at, crate::specs::Inner::Items::heading_of))]
+pub(crate) fn heading(text: &[u8], at: usize, low: i32, high: i32) -> Option<Heading>
     requires { PositionIn text.now (record { at = at; line = 1 }) }
     ensures { result ≡ heading_at text.now at low high }
 {
-    let Item::Valued {
-        number,
-        line,
-        at: next,
-    } = crate::words::next_item(text, Position { at, line: 1 })
-    else {
-        return Heading::Missing;
-    };
-    if line != 1 {
-        return Heading::Missing;
+    let item = crate::words::next_item(text, Position { at, line: 1 }).ok()?;
+    if item.line != 1 || !numbers::arithmetic::is_within(low, high, item.number) {
+        return None;
     }
-    if !numbers::arithmetic::is_within(low, high, number) {
-        return Heading::Missing;
-    }
-    Heading::Found {
-        number: numbers::arithmetic::unsigned_part(number) as usize,
-        at: next,
-    }
+    Some(Heading {
+        number: numbers::arithmetic::unsigned_part(item.number) as usize,
+        at: item.at,
+    })
 }
 
 // Whether there are more words on the first line, from a place on.
+#[tactic(auto, using(crate::proofs::Laws::Positions::skipped_none, crate::proofs::Laws::Positions::skipped_word), unfolding(crate::specs::Table::has_more))]
 pub(crate) fn has_more(text: &[u8], at: usize) -> bool
     requires { PositionIn text.now (record { at = at; line = 1 }) }
     ensures { result ≡ has_more (words_at text.now (record { at = at; line = 1 })) }
 {
     let next = crate::words::skip(text, Position { at, line: 1 });
-    if text.len() <= next.at {
-        return false;
-    }
-    next.line == 1
+    next.at < text.len() && next.line == 1
 }

@@ -7,11 +7,15 @@ mod numerals;
 mod values;
 pub mod words;
 
-ghost use Rattle.decimal.specs.Table.{Reads};
+ghost use Rattle.std.specs.Prelude.{◌≡◌};
+ghost use Rattle.decimal.specs.declared.ParseError.TheVariants as errors;
+ghost use Rattle.decimal.specs.Table.{Reads, refusal_number};
 ghost use Rattle.decimal.specs.Inner.Values.{table_at, limit_at, Answers, BodyReady, LimitReady};
 
+use std::fmt;
+
 // What was expected where a text goes wrong.
-#[derive(Clone, Copy)]
+#[derive(Clone, Copy, Debug, PartialEq, Eq)]
 pub enum Expected {
     // n, on the first line.
     Variables,
@@ -25,13 +29,54 @@ pub enum Expected {
     TextEnd,
 }
 
-// What a text gives: the length of the input in the lent buffer, or the line on which something else was expected; or that the
-// buffer is too short for some input.
-#[derive(Clone, Copy)]
-pub enum Parsed {
-    Input { length: usize },
-    Wrong { line: usize, expected: Expected },
+// The number of the refusal.
+impl From<Expected> for u64 {
+    ghost from_gives = { λ expected number. number ≡ refusal_number expected };
+
+    #[tactic(auto, unfolding(crate::specs::Table::refusal_number))]
+    fn from(expected: Expected) -> u64 {
+        match expected {
+            Expected::Variables => 101,
+            Expected::Limit => 102,
+            Expected::LineEnd => 103,
+            Expected::Value => 104,
+            Expected::TextEnd => 105,
+        }
+    }
+}
+
+impl fmt::Display for Expected {
+    fn fmt<W: fmt::Write>(&self, f: &mut fmt::Formatter<W>) -> fmt::Result {
+        f.write_str(match self {
+            Expected::Variables => "n, a whole number from 1 to 12",
+            Expected::Limit => "A, a whole number from 0 to 255",
+            Expected::LineEnd => "nothing more after n and A",
+            Expected::Value => "a whole number from -2147483648 to 2147483647",
+            Expected::TextEnd => "nothing more after 2^n values",
+        })
+    }
+}
+
+// The line on which a text goes wrong, and what was expected there.
+#[derive(Clone, Copy, Debug, PartialEq, Eq)]
+pub struct Wrong {
+    pub line: usize,
+    pub expected: Expected,
+}
+
+// Why a text gives no input: it goes wrong, or the buffer is too short for some input.
+#[derive(Clone, Copy, Debug, PartialEq, Eq)]
+pub enum ParseError {
+    Wrong(Wrong),
     TooShort,
+}
+
+impl From<Wrong> for ParseError {
+    ghost from_gives = { λ wrong error. error ≡ errors.Wrong wrong };
+
+    fn from(wrong: Wrong) -> ParseError {
+        ParseError::Wrong(wrong)
+    }
 }
 
 // A place in a text, and its line.
@@ -41,99 +86,76 @@ pub struct Position {
     pub line: usize,
 }
 
-// What digits give: their number up to 2^31.
-#[derive(Clone, Copy)]
-pub enum Digits {
-    Small(usize),
-    NotSmall,
+// A number of 32 bits that comes next in a text, its line, and the place behind it.
+#[derive(Clone, Copy, Debug, PartialEq, Eq)]
+pub struct Item {
+    pub number: i32,
+    pub line: usize,
+    pub at: usize,
 }
 
-// What a word gives: its number of 32 bits.
-#[derive(Clone, Copy)]
-pub enum Number {
-    Whole(i32),
-    NotWhole,
-}
-
-// What comes next in a text: a number of 32 bits, with the place behind it, or none, at any other word or at the end; each with
-// its line.
-#[derive(Clone, Copy)]
-pub enum Item {
-    Valued { number: i32, line: usize, at: usize },
-    Other { line: usize },
+// The line of the word that comes next in a text and is no number of 32 bits, or of the text's end.
+#[derive(Clone, Copy, Debug, PartialEq, Eq)]
+pub struct NoNumber {
+    pub line: usize,
 }
 
 // A number in its range on the first line, with the place behind it.
 #[derive(Clone, Copy)]
-pub enum Heading {
-    Found { number: usize, at: usize },
-    Missing,
-}
-
-// Whether the values are all there, and nothing more.
-#[derive(Clone, Copy)]
-pub enum Body {
-    Good,
-    Wrong { line: usize, expected: Expected },
+struct Heading {
+    number: usize,
+    at: usize,
 }
 
 // The bytes of a buffer that holds every input.
 pub const INPUT_ROOM: usize = 2 + 4 * numbers::MOST_VALUES;
 
-// The values, from the place behind n and the limit, and the input's bytes.
-fn parse_values(text: &[u8], at: usize, n: usize, limit: usize, input: &mut [u8]) -> Parsed
+// The values, from the place behind n and the limit, and the input's bytes. Answers how many there are.
+fn parse_values(
+    text: &[u8],
+    at: usize,
+    n: usize,
+    limit: usize,
+    input: &mut [u8],
+) -> Result<usize, Wrong>
     requires { BodyReady text.now at n limit input.old }
     ensures { Answers (table_at text.now at n limit) input.old result input.new }
 {
     let mut row = [0i32; numbers::MOST_VALUES];
     let count = numbers::arithmetic::power(n);
-    match crate::values::read_values(text, at, count, &mut row) {
-        Body::Wrong { line, expected } => {
-            return Parsed::Wrong { line, expected };
-        }
-        Body::Good => {}
-    }
-    Parsed::Input {
-        length: crate::values::write_input(input, n, limit, &row[..count]),
-    }
+    crate::values::read_values(text, at, count, &mut row)?;
+    Ok(crate::values::write_input(input, n, limit, &row[..count]))
 }
 
 // What follows n, from the place behind it: the limit, nothing more on the first line, and the values.
-fn parse_limit(text: &[u8], at: usize, n: usize, input: &mut [u8]) -> Parsed
+fn parse_limit(text: &[u8], at: usize, n: usize, input: &mut [u8]) -> Result<usize, Wrong>
     requires { LimitReady text.now at n input.old }
     ensures { Answers (limit_at text.now at n) input.old result input.new }
 {
-    let Heading::Found {
-        number: limit,
-        at: behind,
-    } = crate::headings::heading(text, at, 0, 255)
-    else {
-        return Parsed::Wrong {
-            line: 1,
-            expected: Expected::Limit,
-        };
-    };
-    if crate::headings::has_more(text, behind) {
-        return Parsed::Wrong {
+    let limit = crate::headings::heading(text, at, 0, 255).ok_or(Wrong {
+        line: 1,
+        expected: Expected::Limit,
+    })?;
+    if crate::headings::has_more(text, limit.at) {
+        return Err(Wrong {
             line: 1,
             expected: Expected::LineEnd,
-        };
+        });
     }
-    parse_values(text, behind, n, limit, input)
+    parse_values(text, limit.at, n, limit.number, input)
 }
 
-// The listing's input of the table that a text gives, written into the lent buffer where that holds every input.
-pub fn parse(text: &[u8], input: &mut [u8]) -> Parsed
+// The listing's input of the table that a text gives, written into the lent buffer where that holds every input. Answers its
+// length.
+pub fn parse(text: &[u8], input: &mut [u8]) -> Result<usize, ParseError>
     ensures { Reads text.now input.old result input.new }
 {
     if input.len() < INPUT_ROOM {
-        return Parsed::TooShort;
+        return Err(ParseError::TooShort);
     }
-    let Heading::Found { number: n, at } = crate::headings::heading(text, 0, 1, 12) else {
-        return Parsed::Wrong {
-            line: 1,
-            expected: Expected::Variables,
-        };
-    };
-    parse_limit(text, at, n, input)
+    let n = crate::headings::heading(text, 0, 1, 12).ok_or(Wrong {
+        line: 1,
+        expected: Expected::Variables,
+    })?;
+    Ok(parse_limit(text, n.at, n.number, input)?)
 }

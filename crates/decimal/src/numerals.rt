@@ -1,84 +1,56 @@
 // The number of a word.
 ghost use Rattle.std.specs.Prelude.{◌≡◌, ◌≤◌, length, drop};
-ghost use Rattle.lines.specs.Reading.{is_digit};
 ghost use Rattle.decimal.specs.Inner.Numbers.{largest_size, small_number, sign_length, signed_number, word_number};
 
-use crate::{Digits, Number};
-
-// Whether a byte is a decimal digit.
-fn is_digit(byte: usize) -> bool
-    ensures { result ≡ is_digit byte }
-{
-    if byte < 48 {
-        return false;
-    }
-    byte <= 57
-}
-
 // The number of the digits from a place on. A larger one than any value's size is left early.
-fn read_digits(word: &[u8], start: usize) -> Digits
+fn read_digits(word: &[u8], start: usize) -> Option<usize>
     requires { start ≤ length word.now }
     ensures { result ≡ small_number (drop start word.now) }
 {
-    if word.len() <= start {
-        return Digits::NotSmall;
+    let digits = &word[start..];
+    if digits.is_empty() {
+        return None;
     }
     let mut value = 0;
-    let mut at = start;
-    while at < word.len() {
-        let byte = word[at] as usize;
-        if !is_digit(byte) {
-            return Digits::NotSmall;
+    for byte in digits {
+        if !byte.is_ascii_digit() {
+            return None;
         }
-        value = 10 * value + (byte - 48);
+        value = 10 * value + (*byte - b'0') as usize;
         if 2147483648 < value {
-            return Digits::NotSmall;
+            return None;
         }
-        at += 1;
     }
-    Digits::Small(value)
+    Some(value)
 }
 
 // How many bytes of a word are its sign, from its first byte.
+#[tactic(auto, unfolding(crate::specs::Inner::Numbers::sign_length, crate::specs::Numbers::is_sign))]
 fn sign_length(first: u8) -> usize
     ensures { result ≡ sign_length first }
 {
-    if first == b'+' {
-        return 1;
-    }
-    if first == b'-' {
-        return 1;
-    }
-    0
+    if matches!(first, b'+' | b'-') { 1 } else { 0 }
 }
 
-// A number from its size and its sign, where it has 32 bits.
-fn signed(size: usize, negative: bool) -> Number
+// A number from its size and its sign, where it has 32 bits: the least value's size is no value's without a minus.
+#[tactic(auto, using(crate::proofs::Laws::Numbers::border_whole, crate::proofs::Laws::Numbers::negated_whole, crate::proofs::Laws::Numbers::same_whole), unfolding(crate::specs::Inner::Numbers::largest_size))]
+fn signed(size: usize, negative: bool) -> Option<i32>
     requires { size ≤ largest_size }
     ensures { result ≡ signed_number size negative }
 {
-    if negative {
-        if size == 0 {
-            return Number::Whole(0);
-        }
-        return Number::Whole(-1 - ((size - 1) as i32));
-    }
     if size == 2147483648 {
-        return Number::NotWhole;
+        return negative.then_some(i32::MIN);
     }
-    Number::Whole(size as i32)
+    let number = size as i32;
+    Some(if negative { -number } else { number })
 }
 
 // The number of a word.
-pub(crate) fn word_number(word: &[u8]) -> Number
+#[tactic(auto, using(crate::proofs::Laws::Numbers::sign_short, crate::proofs::Laws::Numbers::no_first, crate::proofs::Laws::Numbers::some_first, crate::proofs::Laws::Numbers::first_small, crate::proofs::Laws::Numbers::first_not_small))]
+pub(crate) fn word_number(word: &[u8]) -> Option<i32>
     ensures { result ≡ word_number word.now }
 {
-    if word.len() == 0 {
-        return Number::NotWhole;
-    }
-    let first = word[0];
-    let Digits::Small(size) = read_digits(word, sign_length(first)) else {
-        return Number::NotWhole;
-    };
+    let first = *word.first()?;
+    let size = read_digits(word, sign_length(first))?;
     signed(size, first == b'-')
 }

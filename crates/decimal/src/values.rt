@@ -5,46 +5,47 @@ ghost use Rattle.decimal.specs.Table.{input_of};
 ghost use Rattle.decimal.specs.Inner.Positions.{PositionIn};
 ghost use Rattle.decimal.specs.Inner.Values.{values_at, body_judged, ReadsValues, InputReady};
 
-use crate::{Body, Expected, Item, Position};
+use crate::{Expected, Position, Wrong};
 
 // That no word is left from a place on.
-fn check_end(text: &[u8], place: Position) -> Body
+#[tactic(auto, using(crate::proofs::Laws::Positions::skipped_none, crate::proofs::Laws::Positions::skipped_word), unfolding(crate::specs::Inner::Values::body_judged, crate::specs::Table::values_read))]
+fn check_end(text: &[u8], place: Position) -> Result<(), Wrong>
     requires { PositionIn text.now place }
     ensures { result ≡ body_judged (values_at text.now place 0) }
 {
     let next = crate::words::skip(text, place);
-    if text.len() <= next.at {
-        return Body::Good;
+    if next.at < text.len() {
+        return Err(Wrong {
+            line: next.line,
+            expected: Expected::TextEnd,
+        });
     }
-    Body::Wrong {
-        line: next.line,
-        expected: Expected::TextEnd,
-    }
+    Ok(())
 }
 
 // So many values from a place of the first line on, into the front of the lent row, and then nothing more. Where the text goes
 // wrong the row has those before.
-pub(crate) fn read_values(text: &[u8], at: usize, count: usize, values: &mut [i32]) -> Body
+pub(crate) fn read_values(
+    text: &[u8],
+    at: usize,
+    count: usize,
+    values: &mut [i32],
+) -> Result<(), Wrong>
     requires position_in { PositionIn text.now (record { at = at; line = 1 }) }
     requires count_in_bounds { count ≤ length values.old }
     ensures { ReadsValues text.now (record { at = at; line = 1 }) count values.old result values.new }
 {
     let mut place = Position { at, line: 1 };
-    let mut j = 0;
-    while j < count {
-        match crate::words::next_item(text, place) {
-            Item::Valued { number, line, at } => {
-                values[j] = number;
-                place = Position { at, line };
-            }
-            Item::Other { line } => {
-                return Body::Wrong {
-                    line,
-                    expected: Expected::Value,
-                };
-            }
-        }
-        j += 1;
+    for j in 0..count {
+        let item = crate::words::next_item(text, place).map_err(|none| Wrong {
+            line: none.line,
+            expected: Expected::Value,
+        })?;
+        values[j] = item.number;
+        place = Position {
+            at: item.at,
+            line: item.line,
+        };
     }
     check_end(text, place)
 }
@@ -56,10 +57,8 @@ pub(crate) fn write_input(input: &mut [u8], n: usize, limit: usize, values: &[i3
 {
     input[0] = n as u8;
     input[1] = limit as u8;
-    let mut j = 0;
-    while j < values.len() {
-        operands::writing::write_signed(input, 2 + 4 * j, values[j]);
-        j += 1;
+    for (j, value) in values.iter().enumerate() {
+        operands::writing::write_signed(input, 2 + 4 * j, *value);
     }
-    2 + 4 * j
+    2 + 4 * values.len()
 }

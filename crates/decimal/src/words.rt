@@ -3,22 +3,14 @@ ghost use Rattle.std.specs.Prelude.{◌≡◌, ◌+◌, ◌≤◌, length, drop}
 ghost use Rattle.decimal.specs.Inner.Positions.{is_separator, PositionIn, skipped, word_length};
 ghost use Rattle.decimal.specs.Inner.Items.{item_at};
 
-use crate::{Item, Number, Position};
+use crate::{Item, NoNumber, Position};
 
 // Whether a byte parts words: a blank, or the end of a line.
+#[tactic(auto, unfolding(crate::specs::Inner::Positions::is_separator, crate::specs::Words::is_newline, crate::specs::Words::is_blank))]
 fn is_separator(byte: u8) -> bool
     ensures { result ≡ is_separator byte }
 {
-    if byte == b'\n' {
-        return true;
-    }
-    if byte == b' ' {
-        return true;
-    }
-    if byte == b'\t' {
-        return true;
-    }
-    byte == b'\r'
+    matches!(byte, b'\n' | b' ' | b'\t' | b'\r')
 }
 
 // Past the blanks and newlines from a place on.
@@ -26,19 +18,19 @@ pub(crate) fn skip(text: &[u8], place: Position) -> Position
     requires { PositionIn text.now place }
     ensures { result ≡ skipped text.now place }
 {
-    let mut at = place.at;
     let mut line = place.line;
-    while at < text.len() {
-        let byte = text[at];
-        if !is_separator(byte) {
+    for at in place.at..text.len() {
+        if !is_separator(text[at]) {
             return Position { at, line };
         }
-        if byte == b'\n' {
+        if text[at] == b'\n' {
             line += 1;
         }
-        at += 1;
     }
-    Position { at, line }
+    Position {
+        at: text.len(),
+        line,
+    }
 }
 
 // The end of the word that starts at a place.
@@ -46,31 +38,22 @@ fn word_end(text: &[u8], start: usize) -> usize
     requires { start ≤ length text.now }
     ensures { result ≡ start + word_length (drop start text.now) }
 {
-    let mut at = start;
-    while at < text.len() {
-        if is_separator(text[at]) {
-            return at;
-        }
-        at += 1;
-    }
-    at
+    let rest = &text[start..];
+    let length = rest.iter().position(|byte| is_separator(*byte));
+    start + length.unwrap_or(rest.len())
 }
 
 // What comes next, from a place on.
-pub fn next_item(text: &[u8], place: Position) -> Item
+pub fn next_item(text: &[u8], place: Position) -> Result<Item, NoNumber>
     requires { PositionIn text.now place }
     ensures { result ≡ item_at text.now place }
 {
-    let first = skip(text, place);
-    let start = first.at;
-    let line = first.line;
+    let Position { at: start, line } = skip(text, place);
     let end = word_end(text, start);
-    let Number::Whole(number) = crate::numerals::word_number(&text[start..end]) else {
-        return Item::Other { line };
-    };
-    Item::Valued {
+    let number = crate::numerals::word_number(&text[start..end]).ok_or(NoNumber { line })?;
+    Ok(Item {
         number,
         line,
         at: end,
-    }
+    })
 }

@@ -1,45 +1,36 @@
 // Two clients of the operations, proved from the operations' contracts alone: they show that the contracts say enough.
 ghost use Rattle.demands.specs.Clients.{RunsTable, ExpandsTable};
 
-use cascade::Outcome;
-use image::{Expanded, Ran};
+use image::Evaluated;
+use numbers::Refusal;
 
 // A table is compiled into a lent buffer, and the compiled image is run at X.
-pub fn run_table(n: usize, table: &[i32], limit: usize, image: &mut [u8], x: usize) -> Ran
+#[tactic(auto, using(crate::proofs::Laws::Clients::front_inside, crate::proofs::Laws::Clients::front_length, crate::proofs::Laws::Clients::run_gives))]
+pub fn run_table(
+    n: usize,
+    table: &[i32],
+    limit: usize,
+    image: &mut [u8],
+    x: usize,
+) -> Result<Evaluated, Refusal>
     ensures { RunsTable n table.now limit image.old x result image.new }
 {
-    let compiled = compiler::compile(n, table, limit, image);
-    let outcome = compiled.outcome;
-    match outcome {
-        Outcome::Image {
-            length,
-            nodes: _,
-            cells: _,
-            bits: _,
-        } => runner::run(&image[..length], x),
-        Outcome::Refused(number) => Ran::Refused(number),
-    }
+    let compiled = compiler::compile(n, table, limit, image)?;
+    runner::run(&image[..compiled.length], x)
 }
 
 // A table is compiled into a lent buffer, and the compiled image is expanded into another.
+// Kept: two lines like run_table's, which a function over closures would not shorten.
+#[tactic(auto, using(crate::proofs::Laws::Clients::front_inside, crate::proofs::Laws::Clients::front_length))]
 pub fn expand_table(
     n: usize,
     table: &[i32],
     limit: usize,
     image: &mut [u8],
     values: &mut [i32],
-) -> Expanded
+) -> Result<(), Refusal>
     ensures { ExpandsTable n table.now limit image.old values.old result image.new values.new }
 {
-    let compiled = compiler::compile(n, table, limit, image);
-    let outcome = compiled.outcome;
-    match outcome {
-        Outcome::Image {
-            length,
-            nodes: _,
-            cells: _,
-            bits: _,
-        } => runner::expand(&image[..length], values),
-        Outcome::Refused(number) => Expanded::Refused(number),
-    }
+    let compiled = compiler::compile(n, table, limit, image)?;
+    runner::expand(&image[..compiled.length], values)
 }

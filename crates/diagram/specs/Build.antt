@@ -1,12 +1,13 @@
 -- Build: what it answers, and what its buffer then holds.
-use Rattle.std.specs.Prelude.{ℕ, ◌-◌, ◌*◌, ◌^◌, ◌≡◌, length, take, leb, eqb, ℤ}
+use Rattle.std.specs.Prelude.{ℕ, ◌-◌, ◌*◌, ◌^◌, ◌≡◌, length, take, leb, eqb, ℤ, Result}
 use mathlib.Core.List.{List, flat_map}
-use Rattle.numbers.specs.Answers.{Answer, accepted, refused, unless, map_answer, buffer_after}
+use Rattle.numbers.specs.Answers.{Answer, accepted, unless, map_answer, buffer_after}
+use Rattle.numbers.specs.Refusals.{answer_of}
+use Rattle.numbers.specs.declared.Refusal.{Refusal}
 use Rattle.numbers.specs.Lists.{every}
 use Rattle.numbers.specs.Ranges.{is_variables, is_value}
 use Rattle.diagram.specs.Records.{Record, records, record_numbers, record_size, offset, node_count}
 use Rattle.diagram.specs.declared.Built.{Built}
-use Rattle.diagram.specs.declared.Built.TheVariants.{Diagram, Refused}
 
 -- The checks on a table that Build, Plan and Compile share, in their order: 1, 2, 3.
 unfoldable pub of_table : {A : Type 0} → ℕ → List ℤ → Answer A → Answer A
@@ -45,12 +46,11 @@ build_buffer n table buffer = buffer_after (build n table (length buffer)) (flat
 unfoldable pub record_part : ℕ → List ℤ → List ℤ
 record_part count buffer = take (record_size * (count - 1)) buffer
 
--- The paper's answer that a value of the enum stands for.
-unfoldable pub built : Built → Answer Summary
-built (Diagram count start) = accepted (record { nodes = count; table_offset = start })
-built (Refused number) = refused number
+-- The paper's answer that a result stands for.
+unfoldable pub built : Result Built Refusal → Answer Summary
+built result = map_answer (λ (b : Built). record { nodes = b.nodes; table_offset = b.offset }) (answer_of result)
 
 -- Build's promise: its answer, and what its buffer then holds.
-pub record Builds (n : ℕ) (table buffer : List ℤ) (answer : Built) (buffer' : List ℤ) : Type 0 where
+pub record Builds (n : ℕ) (table buffer : List ℤ) (answer : Result Built Refusal) (buffer' : List ℤ) : Type 0 where
   pub answered : built answer ≡ build_answer n table (length buffer)
   pub left : buffer' ≡ build_buffer n table buffer

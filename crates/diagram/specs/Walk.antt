@@ -1,14 +1,12 @@
 -- Walk: its check of a record list, and the value on the path from the root. Any list that passes is walked.
 use Rattle.std.specs.Prelude.{ℕ, zero, suc, ◌+◌, ◌-◌, ◌*◌, ◌/◌, ◌%◌, ◌^◌, Bool, true, false, ◌&&◌, ◌||◌, List, map, length, get_or, leb, ltb, eqb, ℤ, pos, nat_abs, ◌+ℤ◌}
 use Rattle.std.specs.Int.Signed.{lt_z}
-use Rattle.numbers.specs.Answers.{Answer, accepted, refused, unless}
+use Rattle.numbers.specs.Answers.{Answer, accepted, unless}
 use Rattle.numbers.specs.Extremes.{least_of, greatest_of}
 use Rattle.numbers.specs.Lists.{numbers_from, every}
 use Rattle.numbers.specs.Ranges.{is_variables, is_value, is_weight, within, eq_z}
 use Rattle.diagram.specs.Records.{record_size}
 use Rattle.diagram.specs.Build.{node_room}
-use Rattle.diagram.specs.declared.Walked.{Walked}
-use Rattle.diagram.specs.declared.Walked.TheVariants.{Value, Refused}
 
 -- Number c, from 0, of record k, from 1.
 unfoldable pub number_at : List ℤ → ℕ → ℕ → ℤ
@@ -99,8 +97,3 @@ of_list n offset list rest =
 -- Walk's answer: those checks, then 7.
 unfoldable pub walk : ℕ → ℤ → List ℤ → ℕ → Answer ℤ
 walk n offset list x = of_list n offset list (unless (ltb x (2 ^ n)) 7 (accepted (walk_value n offset list x)))
-
--- The paper's answer that a value of the enum stands for.
-unfoldable pub walked : Walked → Answer ℤ
-walked (Value value) = accepted value
-walked (Refused number) = refused number

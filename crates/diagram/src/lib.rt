@@ -2,21 +2,15 @@
 // layout of a record in a buffer.
 #![tactic(auto)]
 
+pub mod cuts;
 pub mod records;
 pub mod tables;
 
-// Build's answer. The records stand in the lent buffer.
+// What Build answers beside the records, which stand in the lent buffer: the node count and the offset.
 #[derive(Clone, Copy)]
-pub enum Built {
-    Diagram { nodes: usize, offset: i32 },
-    Refused(u8),
-}
-
-// Walk's answer.
-#[derive(Clone, Copy)]
-pub enum Walked {
-    Value(i32),
-    Refused(u8),
+pub struct Built {
+    pub nodes: usize,
+    pub offset: i32,
 }
 
 // What reading a variable at a node gives: a weight, and the next node.
@@ -41,6 +35,7 @@ pub struct Range {
 }
 
 // What Build learns of a class: the nodes of its halves, its weight, and whether it branches.
+// Kept: a flag beside values, since the node of the lower half is asked for whether or not the class branches.
 #[derive(Clone, Copy)]
 pub struct Fork {
     pub low: usize,

@@ -6,6 +6,8 @@ ghost use Rattle.diagram.specs.Records.{record_numbers, record_size};
 ghost use Rattle.diagram.specs.Walk.{number_at};
 ghost use Rattle.diagram.specs.Inner.Edges.{Recorded};
 
+use crate::{Fork, Range};
+
 // How many numbers a record has.
 pub const RECORD_SIZE: usize = 6;
 
@@ -25,26 +27,20 @@ pub fn number_at(records: &[i32], k: usize, c: usize) -> i32
     records[RECORD_SIZE * (k - 1) + c]
 }
 
-// A record's numbers, behind those of the records made.
-pub fn write_record(
-    nodes: &mut [i32],
-    made: usize,
-    variable: usize,
-    low: usize,
-    high: usize,
-    weight: i32,
-    least: i32,
-    greatest: i32,
-)
+// A record's numbers, behind those of the records made: the variable of its fork, the fork, and its range.
+#[tactic(auto, unfolding(crate::specs::Records::record_size))]
+pub fn write_record(nodes: &mut [i32], made: usize, variable: usize, fork: Fork, range: Range)
     requires record_size_in_bounds { record_size * made + record_size ≤ length nodes.old }
-    requires variable_bound { (variable < 4096) × ((low < 4096) × (high < 4096)) }
-    ensures { nodes.new ≡ overwritten nodes.old (record_size * made) (record_numbers (record { variable = variable; low = low; high = high; weight = weight; least = least; greatest = greatest })) }
+    requires variable_bound { (variable < 4096) × ((fork.low < 4096) × (fork.high < 4096)) }
+    ensures { nodes.new ≡ overwritten nodes.old (record_size * made) (record_numbers (record { variable = variable; low = fork.low; high = fork.high; weight = fork.weight; least = range.least; greatest = range.greatest })) }
 {
     let at = RECORD_SIZE * made;
-    nodes[at] = variable as i32;
-    nodes[at + 1] = low as i32;
-    nodes[at + 2] = high as i32;
-    nodes[at + 3] = weight;
-    nodes[at + 4] = least;
-    nodes[at + 5] = greatest;
+    nodes[at..at + RECORD_SIZE].copy_from_slice(&[
+        variable as i32,
+        fork.low as i32,
+        fork.high as i32,
+        fork.weight,
+        range.least,
+        range.greatest,
+    ]);
 }

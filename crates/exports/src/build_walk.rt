@@ -12,17 +12,13 @@ pub extern "C" fn panstrait_build(
 ) -> u8
     ensures { BuildGiven n table.now nodes.old count.old offset.old result nodes.new count.new offset.new }
 {
-    let answer = builder::build(n, table, nodes);
-    match answer {
-        diagram::Built::Diagram {
-            nodes: total,
-            offset: first,
-        } => {
-            *count = total;
-            *offset = first;
+    match builder::build(n, table, nodes) {
+        Ok(built) => {
+            *count = built.nodes;
+            *offset = built.offset;
             0
         }
-        diagram::Built::Refused(number) => number,
+        Err(refusal) => u8::from(refusal),
     }
 }
 
@@ -37,12 +33,11 @@ pub extern "C" fn panstrait_walk(
 ) -> u8
     ensures { WalkGiven n offset records.now x value.old result value.new }
 {
-    let answer = walker::walk(n, offset, records, x);
-    match answer {
-        diagram::Walked::Value(found) => {
+    match walker::walk(n, offset, records, x) {
+        Ok(found) => {
             *value = found;
             0
         }
-        diagram::Walked::Refused(number) => number,
+        Err(refusal) => u8::from(refusal),
     }
 }

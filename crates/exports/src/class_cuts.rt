@@ -17,18 +17,16 @@ pub extern "C" fn panstrait_classes(
 ) -> bool
     ensures { Classed n table.now classes.old firsts.old counts.old tried.old uses.old use_counts.old result classes.new firsts.new counts.new tried.new uses.new use_counts.new }
 {
-    if crate::sizes::sizes_fit(
-        n,
-        table.len(),
-        counts.len(),
+    let rows = [
         classes.len(),
         firsts.len(),
         tried.len(),
         uses.len(),
         use_counts.len(),
-    ) {
-        classes::class_cuts(n, table, classes, firsts, counts, tried, uses, use_counts);
-        return true;
+    ];
+    if !crate::sizes::sizes_fit(n, table.len(), counts.len(), &rows) {
+        return false;
     }
-    false
+    classes::class_cuts(n, table, classes, firsts, counts, tried, uses, use_counts);
+    true
 }

@@ -14,5 +14,5 @@ pub extern "C" fn panstrait_pair_run(
 ) -> u8
     ensures { RanGiven (pair_run m image.now x y) value.old words.old result value.new words.new }
 {
-    crate::run_results::hand_back(pairs::pair_run(m, image, x, y), value, words)
+    crate::results::hand_back(pairs::pair_run(m, image, x, y), value, words)
 }

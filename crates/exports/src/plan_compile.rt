@@ -1,8 +1,6 @@
 // Plan and Compile through C. No function here requires anything of its caller; a refusal leaves every lent buffer as it was.
 ghost use Rattle.exports.specs.CascadeGiven.{PlanGiven, CompileGiven};
 
-use cascade::{Outcome, Verdict};
-
 // Plan: the sizes of the chosen grouping and the numbers of its cells, their count and their bits, or the refusal's number.
 #[unsafe(no_mangle)]
 pub extern "C" fn panstrait_plan(
@@ -17,21 +15,16 @@ pub extern "C" fn panstrait_plan(
     ensures { PlanGiven n table.now limit sizes.old cells.old count.old bits.old result sizes.new cells.new count.new bits.new }
 {
     let planned = planner::plan(n, table, limit);
-    let verdict = planned.verdict;
-    match verdict {
-        Verdict::Grouping {
-            cells: number,
-            bits: total,
-        } => {
+    match planned.verdict {
+        Ok(grouping) => {
             let chosen = planned.sizes;
             *sizes = chosen;
-            let list = planned.cells;
-            *cells = cascade::cell_rows::cell_rows(list);
-            *count = number;
-            *bits = total;
+            *cells = cascade::cell_rows::cell_rows(planned.cells);
+            *count = grouping.cells;
+            *bits = grouping.bits;
             0
         }
-        Verdict::Refused(number) => number,
+        Err(refusal) => u8::from(refusal),
     }
 }
 
@@ -51,23 +44,15 @@ pub extern "C" fn panstrait_compile(
 ) -> u8
     ensures { CompileGiven n table.now limit image.old cells.old length.old nodes.old count.old bits.old result image.new cells.new length.new nodes.new count.new bits.new }
 {
-    let compiled = compiler::compile(n, table, limit, image);
-    let outcome = compiled.outcome;
-    match outcome {
-        Outcome::Image {
-            length: bytes,
-            nodes: all,
-            cells: number,
-            bits: total,
-        } => {
-            let list = compiled.cells;
-            *cells = cascade::cell_rows::cell_rows(list);
-            *length = bytes;
-            *nodes = all;
-            *count = number;
-            *bits = total;
+    match compiler::compile(n, table, limit, image) {
+        Ok(compiled) => {
+            *cells = cascade::cell_rows::cell_rows(compiled.cells);
+            *length = compiled.length;
+            *nodes = compiled.nodes;
+            *count = compiled.count;
+            *bits = compiled.bits;
             0
         }
-        Outcome::Refused(number) => number,
+        Err(refusal) => u8::from(refusal),
     }
 }

@@ -1,8 +1,6 @@
 // Reach through C. It requires nothing of its caller; a refusal leaves every lent buffer as it was.
 ghost use Rattle.exports.specs.ReachGiven.{ReachGiven};
 
-use reach::ReachVerdict;
-
 // Reach: the cuts that fitting cells arrive at, their count and the least limit that fits, or the refusal's number.
 #[unsafe(no_mangle)]
 pub extern "C" fn panstrait_reach(
@@ -15,19 +13,14 @@ pub extern "C" fn panstrait_reach(
 ) -> u8
     ensures { ReachGiven n table.now limit cuts.old count.old least.old result cuts.new count.new least.new }
 {
-    let reached = reach::reach(n, table, limit);
-    let verdict = reached.verdict;
-    match verdict {
-        ReachVerdict::Cuts {
-            count: number,
-            least: lowest,
-        } => {
+    match reach::reach(n, table, limit) {
+        Ok(reached) => {
             let list = reached.cuts;
             *cuts = list;
-            *count = number;
-            *least = lowest;
+            *count = reached.count;
+            *least = reached.least;
             0
         }
-        ReachVerdict::Refused(number) => number,
+        Err(refusal) => u8::from(refusal),
     }
 }

@@ -16,20 +16,14 @@ pub extern "C" fn panstrait_report(
 ) -> u8
     ensures { ReportGiven n offset records.now a b count.old least.old greatest.old sum.old result count.new least.new greatest.new sum.new }
 {
-    let answer = report::report(n, offset, records, a, b);
-    match answer {
-        report::Reported::Report {
-            count: total,
-            least: low,
-            greatest: high,
-            sum: all,
-        } => {
-            *count = total;
-            *least = low;
-            *greatest = high;
-            *sum = all;
+    match report::report(n, offset, records, a, b) {
+        Ok(reported) => {
+            *count = reported.count;
+            *least = reported.least;
+            *greatest = reported.greatest;
+            *sum = reported.sum;
             0
         }
-        report::Reported::Refused(number) => number,
+        Err(refusal) => u8::from(refusal),
     }
 }

@@ -6,7 +6,7 @@ ghost use Rattle.exports.specs.ImageGiven.{RunGiven, ExpandGiven};
 pub extern "C" fn panstrait_run(image: &[u8], x: usize, value: &mut i32, words: &mut usize) -> u8
     ensures { RunGiven image.now x value.old words.old result value.new words.new }
 {
-    crate::run_results::hand_back(runner::run(image, x), value, words)
+    crate::results::hand_back(runner::run(image, x), value, words)
 }
 
 // Expand: the table of an image, or the refusal's number.
@@ -14,9 +14,5 @@ pub extern "C" fn panstrait_run(image: &[u8], x: usize, value: &mut i32, words: 
 pub extern "C" fn panstrait_expand(image: &[u8], table: &mut [i32]) -> u8
     ensures { ExpandGiven image.now table.old result table.new }
 {
-    let answer = runner::expand(image, table);
-    match answer {
-        image::Expanded::Table => 0,
-        image::Expanded::Refused(number) => number,
-    }
+    crate::results::number_of(runner::expand(image, table))
 }

@@ -8,8 +8,6 @@ use Rattle.image.specs.Commands.{table_size, cell_size, word_size, end_size}
 use Rattle.image.specs.declared.Command.{Command}
 use Rattle.image.specs.declared.Command.TheVariants.{Table, Cell, Word, End}
 use Rattle.image.specs.declared.Place.{Place}
-use Rattle.image.specs.declared.Step.{Step}
-use Rattle.image.specs.declared.Step.TheVariants.{Read, Refused}
 
 -- The one command that is allowed at a place.
 pub data Due : Type 0 where
@@ -137,11 +135,6 @@ step image p =
     (unless (eqb (get_or image p.at 0) (due_byte (due p))) 12
     (unless (leb (p.at + due_size (due p)) (length image)) 11
     (judged image p (command_at (due p) image p.at)))))
-
--- The paper's answer that a value of the enum stands for.
-unfoldable pub stepped : Step → Answer (Command × Place)
-stepped (Read command place) = accepted (command, place)
-stepped (Refused number) = refused number
 
 -- A command with those that follow it; nothing follows 0x45.
 unfoldable pub followed_by : Command → Answer (List Command) → Answer (List Command)

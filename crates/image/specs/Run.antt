@@ -1,14 +1,13 @@
 -- Run and Expand: the value that memories and adders give at X, and the words read for it.
-use Rattle.std.specs.Prelude.{ℕ, suc, ◌+◌, ◌-◌, ◌*◌, ◌/◌, ◌%◌, ◌^◌, ◌≡◌, List, [], ◌∷◌, map, length, get_or, ltb, eqb, ℤ, pos, ◌+ℤ◌}
-use Rattle.numbers.specs.Answers.{Answer, accepted, refused, unless, map_answer, and_then, buffer_after}
+use Rattle.std.specs.Prelude.{ℕ, suc, ◌+◌, ◌-◌, ◌*◌, ◌/◌, ◌%◌, ◌^◌, ◌≡◌, List, [], ◌∷◌, map, length, get_or, ltb, eqb, ℤ, pos, ◌+ℤ◌, Result as Outcome}
+use Rattle.numbers.specs.Answers.{Answer, accepted, unless, map_answer, and_then, buffer_after}
+use Rattle.numbers.specs.Refusals.{answer_of}
+use Rattle.numbers.specs.declared.Refusal.{Refusal}
 use Rattle.numbers.specs.Lists.{numbers_from}
 use Rattle.image.specs.Cells.{Word, Cell, Card}
 use Rattle.image.specs.Commands.{card_of}
 use Rattle.image.specs.Reader.{reading}
-use Rattle.image.specs.declared.Ran.{Ran}
-use Rattle.image.specs.declared.Ran.TheVariants as ran_variants
-use Rattle.image.specs.declared.Expanded.{Expanded}
-use Rattle.image.specs.declared.Expanded.TheVariants as expanded_variants
+use Rattle.image.specs.declared.Evaluated.{Evaluated}
 
 -- A value and the number of words read for it.
 pub record Result : Type 0 where
@@ -50,16 +49,14 @@ expand image room = and_then (reading image) (λ commands. unless (eqb room (2 ^
 unfoldable pub expand_buffer : List ℕ → List ℤ → List ℤ
 expand_buffer image buffer = buffer_after (expand image (length buffer)) (λ values. values) buffer
 
--- The paper's answers that values of the enums stand for.
-unfoldable pub ran : Ran → Answer Result
-ran (ran_variants.Value value words) = accepted (record { value = value; words = words })
-ran (ran_variants.Refused number) = refused number
+-- The paper's answer that an evaluation stands for, and that a result stands for.
+unfoldable pub result_of : Evaluated → Result
+result_of evaluated = record { value = evaluated.value; words = evaluated.words }
 
-unfoldable pub expanded : Expanded → Answer (Unit {0})
-expanded expanded_variants.Table = accepted tt
-expanded (expanded_variants.Refused number) = refused number
+unfoldable pub ran : Outcome Evaluated Refusal → Answer Result
+ran result = map_answer result_of (answer_of result)
 
 -- Expand's answer and the table buffer, before and after.
-pub record Expands (image : List ℕ) (buffer : List ℤ) (r : Expanded) (after : List ℤ) : Type 0 where
-  pub answer : expanded r ≡ map_answer (λ values. tt) (expand image (length buffer))
+pub record Expands (image : List ℕ) (buffer : List ℤ) (r : Outcome (Unit {0}) Refusal) (after : List ℤ) : Type 0 where
+  pub answer : answer_of r ≡ map_answer (λ values. tt) (expand image (length buffer))
   pub written : after ≡ expand_buffer image buffer

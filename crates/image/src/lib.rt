@@ -6,6 +6,8 @@
 ghost use Rattle.std.specs.Prelude.{◌≡◌};
 ghost use Rattle.numbers.specs.Widths.{cell_bits};
 ghost use Rattle.image.specs.Inner.Bounds.{CellFits};
+ghost use Rattle.image.specs.Inner.Kinds.{due_of, is_end};
+ghost use Rattle.image.specs.Reader.{due_byte, due_size};
 
 // The bytes of 0x56 with its operands.
 pub const TABLE_SIZE: usize = 6;
@@ -48,8 +50,18 @@ pub enum Command {
     },
 }
 
+impl Command {
+    // Whether it is the last one, 0x45.
+    #[tactic(auto, unfolding(crate::specs::Inner::Kinds::is_end))]
+    pub fn is_end(self) -> bool
+        ensures { result ≡ is_end self }
+    {
+        matches!(self, Command::End { .. })
+    }
+}
+
 // A place in the image, with what the commands before it leave to be judged.
-#[derive(Clone, Copy)]
+#[derive(Clone, Copy, Default)]
 pub struct Place {
     // The next byte.
     pub at: usize,
@@ -70,27 +82,6 @@ pub struct Place {
     pub bits: usize,
 }
 
-// What one step of the reader yields.
-#[derive(Clone, Copy)]
-pub enum Step {
-    Read(Command, Place),
-    Refused(u8),
-}
-
-// Run's answer.
-#[derive(Clone, Copy)]
-pub enum Ran {
-    Value { value: i32, words: usize },
-    Refused(u8),
-}
-
-// Expand's answer. The values stand in the lent buffer.
-#[derive(Clone, Copy)]
-pub enum Expanded {
-    Table,
-    Refused(u8),
-}
-
 // The kinds of commands.
 #[derive(Clone, Copy)]
 pub enum Kind {
@@ -98,6 +89,34 @@ pub enum Kind {
     Cell,
     Word,
     End,
+}
+
+impl Kind {
+    // The byte that a command of this kind begins with.
+    #[tactic(auto, unfolding(crate::specs::Inner::Kinds::due_of, crate::specs::Reader::due_byte))]
+    pub fn byte(self) -> u8
+        ensures { result ≡ due_byte (due_of self) }
+    {
+        match self {
+            Kind::Table => 0x56,
+            Kind::Cell => 0x43,
+            Kind::Word => 0x57,
+            Kind::End => 0x45,
+        }
+    }
+
+    // The bytes that a command of this kind takes, its operands included.
+    #[tactic(auto, unfolding(crate::specs::Inner::Kinds::due_of, crate::specs::Reader::due_size))]
+    pub fn size(self) -> usize
+        ensures { result ≡ due_size (due_of self) }
+    {
+        match self {
+            Kind::Table => TABLE_SIZE,
+            Kind::Cell => CELL_SIZE,
+            Kind::Word => WORD_SIZE,
+            Kind::End => END_SIZE,
+        }
+    }
 }
 
 // Where evaluation stands: the next cell, the variables left, the class, and what the cells so far gave.

@@ -7,13 +7,7 @@ ghost use Rattle.lines.specs.Inner.Writing.{Writes};
 fn digit_count(number: usize) -> usize
     ensures { result ≡ length (decimal (pos number)) }
 {
-    let mut count = 1;
-    let mut rest = number;
-    while 10 <= rest {
-        rest /= 10;
-        count += 1;
-    }
-    count
+    number.checked_ilog10().map_or(1, |log| log as usize + 1)
 }
 
 // A number at a place, its digits from the lowest up. Answers the place behind it.
@@ -23,10 +17,8 @@ fn write_number(text: &mut [u8], at: usize, number: usize) -> usize
 {
     let count = digit_count(number);
     let mut rest = number;
-    let mut left = count;
-    while 0 < left {
-        left -= 1;
-        text[at + left] = (48 + rest % 10) as u8;
+    for k in (0..count).rev() {
+        text[at + k] = b'0' + (rest % 10) as u8;
         rest /= 10;
     }
     at + count

@@ -8,12 +8,9 @@ fn write_bytes(text: &mut [u8], at: usize, bytes: &[u8]) -> usize
     requires { at + length bytes.now ≤ length text.old }
     ensures { Writes text.old at bytes.now result text.new }
 {
-    let mut i = 0;
-    while i < bytes.len() {
-        text[at + i] = bytes[i];
-        i += 1;
-    }
-    at + i
+    let next = at + bytes.len();
+    text[at..next].copy_from_slice(bytes);
+    next
 }
 
 // A number at a place, behind a space. Answers the place behind it.
@@ -31,10 +28,8 @@ fn write_fields(text: &mut [u8], at: usize, numbers: &[i32]) -> usize
     ensures { Writes text.old at (fields numbers.now) result text.new }
 {
     let mut next = at;
-    let mut i = 0;
-    while i < numbers.len() {
-        next = write_field(text, next, numbers[i]);
-        i += 1;
+    for number in numbers {
+        next = write_field(text, next, *number);
     }
     text[next] = b'\n';
     next + 1

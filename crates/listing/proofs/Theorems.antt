@@ -1,7 +1,8 @@
 -- What the listing program writes, for every input: which line each refusal prints and when, the table's text
 -- otherwise, numbers that are read back, and an input's bytes beyond the longest admitted one.
 use Rattle.std.specs.Prelude.{ℕ, ◌+◌, ◌*◌, ◌^◌, ◌≤◌, ◌<◌, ◌↔◌, ◌≡◌, true, false, length, get_or, take, ℤ, pos}
-use mathlib.Core.List.{List, [], ◌∷◌, flat_map}
+use Rattle.std.proofs.Common.{List, [], ◌∷◌}
+use mathlib.Core.List.{flat_map}
 use Rattle.numbers.specs.Answers.{refused}
 use Rattle.numbers.specs.Conditions.{Limit, TableValue, Signed32}
 use Rattle.operands.specs.Bytes.{signed_bytes}

@@ -1,6 +1,6 @@
 -- The listing program's output, as a function of its input's bytes.
-use Rattle.std.specs.Prelude.{ℕ, suc, ◌+◌, ◌-◌, ◌*◌, ◌/◌, ◌^◌, Bool, ◌&&◌, length, get_or, leb, eqb, ℤ, pos}
-use mathlib.Core.List.{List, [], ◌∷◌, ◌++◌, map, flat_map}
+use Rattle.std.specs.Prelude.{ℕ, suc, ◌+◌, ◌-◌, ◌*◌, ◌/◌, ◌^◌, Bool, ◌&&◌, length, get_or, leb, eqb, ℤ, pos, List, [], ◌∷◌, ◌++◌, map}
+use mathlib.Core.List.{flat_map}
 use Rattle.numbers.specs.Answers.{Answer, accepted, refused, unless}
 use Rattle.numbers.specs.Lists.{numbers_from}
 use Rattle.diagram.specs.Records.{Record, records, offset, node_count}

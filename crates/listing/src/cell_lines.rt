@@ -21,23 +21,15 @@ fn write_cell(text: &mut [u8], at: usize, cell: Cell) -> usize
     lines::fields::write_line(text, at, b"cell", &numbers)
 }
 
-// The lines of the first so many cells at a place, from the top cell down, and their total bits. Answers the place behind them.
-pub(crate) fn write_cascade(
-    text: &mut [u8],
-    at: usize,
-    cells: [Cell; cascade::MOST_CELLS],
-    count: usize,
-    bits: usize,
-) -> usize
-    requires bits_bound { (bits < 2 ^ 31) × CellsSmall cells count }
-    requires bits_in_bounds { at + length (cascade_text cells count bits) ≤ length text.old }
-    ensures { Writes text.old at (cascade_text cells count bits) result text.new }
+// The lines of cells at a place, from the top cell down, and their total bits. Answers the place behind them.
+pub(crate) fn write_cascade(text: &mut [u8], at: usize, cells: &[Cell], bits: usize) -> usize
+    requires bits_bound { (bits < 2 ^ 31) × CellsSmall cells.now (length cells.now) }
+    requires bits_in_bounds { at + length (cascade_text cells.now (length cells.now) bits) ≤ length text.old }
+    ensures { Writes text.old at (cascade_text cells.now (length cells.now) bits) result text.new }
 {
     let mut next = at;
-    let mut k = 0;
-    while k < count {
-        next = write_cell(text, next, cells[k]);
-        k += 1;
+    for cell in cells {
+        next = write_cell(text, next, *cell);
     }
     lines::fields::write_count(text, next, b"bits", bits)
 }

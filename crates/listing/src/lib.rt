@@ -22,12 +22,9 @@ pub(crate) const LISTED_VALUES: usize = 2048;
 // The bytes of a buffer that holds the text of every input.
 pub const TEXT_ROOM: usize = 113248;
 
-// What listing answers: the text's length, or that the buffer is too short for the text of some input.
-#[derive(Clone, Copy)]
-pub enum Listed {
-    Text { length: usize },
-    TooShort,
-}
+// Why there is no text: the buffer is too short for the text of some input.
+#[derive(Clone, Copy, Debug, PartialEq, Eq)]
+pub struct TooShort;
 
 // The text of an input with as many values as n asks for, in front. Answers its length.
 fn list_values(input: &[u8], text: &mut [u8]) -> usize
@@ -36,10 +33,10 @@ fn list_values(input: &[u8], text: &mut [u8]) -> usize
 {
     let n = input[0] as usize;
     let limit = input[1] as usize;
-    let count = numbers::arithmetic::power(n);
-    let mut values = [0i32; LISTED_VALUES];
-    crate::input::read_values(input, &mut values[..count]);
-    crate::tables::list_table(n, &values[..count], limit, text)
+    let mut row = [0i32; LISTED_VALUES];
+    let values = &mut row[..numbers::arithmetic::power(n)];
+    crate::input::read_values(input, values);
+    crate::tables::list_table(n, values, limit, text)
 }
 
 // The text of an input, in front. Answers its length.
@@ -47,31 +44,25 @@ pub fn list_input(input: &[u8], text: &mut [u8]) -> usize
     requires { text_room ≤ length text.old }
     ensures { Writes text.old 0 (listing input.now) result text.new }
 {
-    let number = crate::input::refusal_of(input);
-    if number != 0 {
-        return lines::fields::write_refusal(text, number);
+    if let Err(refusal) = crate::input::check_input(input) {
+        return lines::fields::write_refusal(text, u8::from(refusal));
     }
     list_values(input, text)
 }
 
-// The listing program's text for an input, written into the lent buffer where that holds the text of every input.
-pub fn list(input: &[u8], text: &mut [u8]) -> Listed
+// The listing program's text for an input, written into the lent buffer where that holds the text of every input. Answers its length.
+pub fn list(input: &[u8], text: &mut [u8]) -> Result<usize, TooShort>
     ensures { Lists input.now text.old result text.new }
 {
     if text.len() < TEXT_ROOM {
-        return Listed::TooShort;
+        return Err(TooShort);
     }
-    Listed::Text {
-        length: list_input(input, text),
-    }
+    Ok(list_input(input, text))
 }
 
 // The listing of an input, of which the first bytes were kept, in front of the text. Answers its length.
 pub fn list_kept(kept: &[u8], text: &mut [u8; TEXT_ROOM]) -> usize
     ensures { ListsKept kept.now text.old result text.new }
 {
-    match list(kept, text) {
-        Listed::Text { length } => length,
-        Listed::TooShort => 0,
-    }
+    list(kept, text).unwrap_or(0)
 }

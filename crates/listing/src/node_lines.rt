@@ -5,6 +5,7 @@ ghost use Rattle.lines.specs.Inner.Writing.{Writes};
 ghost use Rattle.listing.specs.Inner.NodeLines.{record_line, record_lines, diagram_text, RecordsThere};
 
 // The line of record k at a place. Answers the place behind it.
+#[tactic(auto, unfolding(diagram::specs::Records::record_size))]
 fn write_node(text: &mut [u8], at: usize, k: usize, nodes: &[i32]) -> usize
     requires recorded { Recorded nodes.now k × (k < 2 ^ 31) }
     requires k_in_bounds { at + length (record_line nodes.now k) ≤ length text.old }
@@ -25,10 +26,8 @@ fn write_nodes(text: &mut [u8], at: usize, nodes: &[i32], count: usize) -> usize
     ensures { Writes text.old at (record_lines nodes.now count) result text.new }
 {
     let mut next = at;
-    let mut k = 0;
-    while k < count {
+    for k in 0..count {
         next = write_node(text, next, k + 1, nodes);
-        k += 1;
     }
     next
 }

@@ -1,6 +1,7 @@
 -- What is proved of the definitions of this crate; a file stands behind those whose laws it cites.
 pub mod Answers
 pub mod Bools
+pub mod Comparing
 pub mod Bounds
 pub mod Integers
 pub mod Least

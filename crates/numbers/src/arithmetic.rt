@@ -26,30 +26,21 @@ pub fn power(k: usize) -> usize
 pub fn is_variables(n: usize) -> bool
     ensures { result ≡ is_variables n }
 {
-    if n < 1 {
-        return false;
-    }
-    n <= crate::MOST_VARIABLES
+    (1..=crate::MOST_VARIABLES).contains(&n)
 }
 
 // Whether a number is an address limit.
 pub fn is_limit(limit: usize) -> bool
     ensures { result ≡ is_limit limit }
 {
-    if limit < 1 {
-        return false;
-    }
-    limit <= crate::WIDEST_ADDRESS
+    (1..=crate::WIDEST_ADDRESS).contains(&limit)
 }
 
 // Whether a number lies within a range.
 pub fn is_within(low: i32, high: i32, number: i32) -> bool
     ensures { result ≡ within low high number }
 {
-    if low <= number {
-        return number <= high;
-    }
-    false
+    (low..=high).contains(&number)
 }
 
 // Whether a number is a value of a table.
@@ -70,12 +61,12 @@ pub fn is_weight(number: i32) -> bool
 pub fn lesser_of(a: i32, b: i32) -> i32
     ensures { result ≡ lesser a b }
 {
-    if a <= b { a } else { b }
+    a.min(b)
 }
 
 // The greater of two numbers.
 pub fn greater_of(a: i32, b: i32) -> i32
     ensures { result ≡ greater a b }
 {
-    if a <= b { b } else { a }
+    a.max(b)
 }

@@ -27,7 +27,7 @@ pub fn weight_width(least: i32, greatest: i32) -> usize
 {
     let low = crate::arithmetic::unsigned_part(least);
     let high = crate::arithmetic::unsigned_part(greatest);
-    let bits = bit_length(if low < high { high } else { low });
+    let bits = bit_length(low.max(high));
     if least < 0 || greatest < 0 {
         1 + bits
     } else {

@@ -28,7 +28,7 @@ pub fn read_two(image: &[u8], at: usize) -> usize
     requires { at + 2 ≤ length image.now }
     ensures { Operand image.now at 2 result }
 {
-    byte(image, at) * 256 + byte(image, at + 1)
+    u16::from_be_bytes([image[at], image[at + 1]]) as usize
 }
 
 // The number that four bytes at a place stand for, the highest byte first.
@@ -36,7 +36,7 @@ pub fn read_four(image: &[u8], at: usize) -> usize
     requires { at + 4 ≤ length image.now }
     ensures { Operand image.now at 4 result }
 {
-    read_two(image, at) * 65536 + read_two(image, at + 2)
+    u32::from_be_bytes([image[at], image[at + 1], image[at + 2], image[at + 3]]) as usize
 }
 
 // The signed number that four bytes at a place stand for, in two's complement.
@@ -44,9 +44,5 @@ pub fn read_signed(image: &[u8], at: usize) -> i32
     requires { at + 4 ≤ length image.now }
     ensures { result ≡ signed_at image.now at }
 {
-    let bits = read_four(image, at);
-    if bits < 2147483648 {
-        return bits as i32;
-    }
-    -1 - ((4294967295 - bits) as i32)
+    i32::from_be_bytes([image[at], image[at + 1], image[at + 2], image[at + 3]])
 }

@@ -8,8 +8,7 @@ pub fn write_two(buffer: &mut [u8], at: usize, number: usize)
     requires { at + 2 ≤ length buffer.old }
     ensures { buffer.new ≡ overwritten buffer.old at (big_endian 2 number) }
 {
-    buffer[at] = (number / 256 % 256) as u8;
-    buffer[at + 1] = (number % 256) as u8;
+    buffer[at..at + 2].copy_from_slice(&((number % 65536) as u16).to_be_bytes());
 }
 
 // Four bytes of a number at a place.
@@ -17,8 +16,7 @@ pub fn write_four(buffer: &mut [u8], at: usize, number: usize)
     requires { at + 4 ≤ length buffer.old }
     ensures { buffer.new ≡ overwritten buffer.old at (big_endian 4 number) }
 {
-    write_two(buffer, at, number / 65536);
-    write_two(buffer, at + 2, number);
+    buffer[at..at + 4].copy_from_slice(&((number % 4294967296) as u32).to_be_bytes());
 }
 
 // Four bytes of a signed number at a place, in two's complement.
@@ -26,10 +24,5 @@ pub fn write_signed(buffer: &mut [u8], at: usize, number: i32)
     requires { at + 4 ≤ length buffer.old }
     ensures { buffer.new ≡ overwritten buffer.old at (signed_bytes number) }
 {
-    let part = numbers::arithmetic::unsigned_part(number) as usize;
-    if number < 0 {
-        write_four(buffer, at, 4294967295 - part);
-    } else {
-        write_four(buffer, at, part);
-    }
+    buffer[at..at + 4].copy_from_slice(&number.to_be_bytes());
 }

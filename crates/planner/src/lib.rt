@@ -10,8 +10,10 @@ ghost use Rattle.cascade.specs.Plan.{Plans};
 ghost use Rattle.planner.specs.Inner.Rows.{RowsRoom, RowsLeft};
 
 use cascade::Planned;
+use numbers::Refusal;
 
 // Plan, with the classes of all cuts left in the lent rows.
+// Kept: rows side by side, since each is lent to be written into.
 pub fn plan_leaving_classes(
     n: usize,
     table: &[i32],
@@ -24,16 +26,13 @@ pub fn plan_leaving_classes(
     ensures plans { Plans n table.now limit result }
     ensures rows_left { RowsLeft n table.now limit classes.old firsts.old counts.old classes.new firsts.new counts.new }
 {
-    match diagram::tables::check_table(n, table) {
-        numbers::Checked::Refused(number) => {
-            return planning::refused_plan(number);
-        }
-        numbers::Checked::Passed => {}
+    if let Err(refusal) = diagram::tables::check_table(n, table) {
+        return planning::refused_plan(refusal);
     }
     if !numbers::arithmetic::is_limit(limit) {
-        return planning::refused_plan(8);
+        return planning::refused_plan(Refusal::Limit);
     }
-    planning::plan_rows(n, table, limit, classes, firsts, counts)
+    planning::plan_table(n, table, limit, classes, firsts, counts)
 }
 
 // Plan: the sizes of the chosen grouping and its cells, or a refusal.

@@ -1,14 +1,14 @@
 -- Reach: the cuts that fitting cells arrive at from cut 0, and the least address limit that fits.
-use Rattle.std.specs.Prelude.{ℕ, suc, ◌≡◌, Bool, true, List, length, leb, ℤ}
-use Rattle.numbers.specs.Answers.{Answer, accepted, refused, unless, map_answer}
+use Rattle.std.specs.Prelude.{ℕ, suc, ◌≡◌, Bool, true, List, length, replicate, leb, ℤ, Result, Ok, Err}
+use Rattle.numbers.specs.Answers.{Answer, accepted, unless, map_answer}
+use Rattle.numbers.specs.Refusals.{answer_of}
+use Rattle.numbers.specs.declared.Refusal.{Refusal}
 use Rattle.numbers.specs.Lists.{numbers_from, keep, tally, least, padded}
 use Rattle.numbers.specs.Ranges.{is_limit, most_variables}
 use Rattle.diagram.specs.Build.{of_table}
 use Rattle.cascade.specs.Groupings.{groupings, fits, is_grouping}
 use Rattle.cascade.specs.Plan.{entries}
 use Rattle.reach.specs.declared.Reached.{Reached}
-use Rattle.reach.specs.declared.ReachVerdict.{ReachVerdict}
-use Rattle.reach.specs.declared.ReachVerdict.TheVariants.{Cuts, Refused}
 
 -- Cut h is arrived at: of the lists of sizes that take the top h variables, at least one has only cells that fit the limit.
 unfoldable pub is_reached : ℕ → List ℤ → ℕ → ℕ → Bool
@@ -53,12 +53,15 @@ reach_totals f = record { count = length f.cuts; limit = f.limit }
 unfoldable pub reach_answer : ℕ → List ℤ → ℕ → Answer ReachTotals
 reach_answer n table limit = map_answer reach_totals (reach n table limit)
 
--- The answer that a value of the enum stands for.
-unfoldable pub reach_judgement : ReachVerdict → Answer ReachTotals
-reach_judgement (Cuts count limit) = accepted (record { count = count; limit = limit })
-reach_judgement (Refused number) = refused number
+-- The paper's answer that a result stands for, and its cuts: a refusal's array holds 0.
+unfoldable pub reach_judgement : Result Reached Refusal → Answer ReachTotals
+reach_judgement result = map_answer (λ (r : Reached). record { count = r.count; limit = r.least }) (answer_of result)
 
--- Reach's promise: its verdict, and what the array beside it holds, 0 past the last cut and all 0 in a refusal.
-pub record Reaches (n : ℕ) (table : List ℤ) (limit : ℕ) (answer : Reached) : Type 0 where
-  pub judged : reach_judgement answer.verdict ≡ reach_answer n table limit
-  pub listed : answer.cuts ≡ cut_array (reach n table limit)
+unfoldable pub cuts_of : Result Reached Refusal → List ℕ
+cuts_of (Ok reached) = reached.cuts
+cuts_of (Err refusal) = replicate (suc most_variables) 0
+
+-- Reach's promise: its answer, and what the array holds, 0 past the last cut and all 0 in a refusal.
+pub record Reaches (n : ℕ) (table : List ℤ) (limit : ℕ) (answer : Result Reached Refusal) : Type 0 where
+  pub judged : reach_judgement answer ≡ reach_answer n table limit
+  pub listed : cuts_of answer ≡ cut_array (reach n table limit)

@@ -4,7 +4,7 @@ ghost use Rattle.numbers.specs.Lists.{numbers_from, padded};
 ghost use Rattle.reach.specs.Inner.NarrowCells.{CountsReady};
 ghost use Rattle.reach.specs.Inner.Counts.{reached_in};
 
-use crate::{ReachVerdict, Reached};
+use crate::Reached;
 
 // The cuts from 0 to the last one, and 0 behind them.
 fn list_cuts(last: usize) -> [usize; blocks::ALL_CUTS]
@@ -12,10 +12,8 @@ fn list_cuts(last: usize) -> [usize; blocks::ALL_CUTS]
     ensures { result ≡ padded 13 0 (numbers_from 0 (suc last)) }
 {
     let mut cuts = [0usize; blocks::ALL_CUTS];
-    let mut h = 0;
-    while h <= last {
+    for h in 0..last + 1 {
         cuts[h] = h;
-        h += 1;
     }
     cuts
 }
@@ -28,10 +26,8 @@ pub(crate) fn reach_counts(n: usize, limit: usize, counts: &[usize]) -> Reached
     let last = crate::narrow_cells::furthest_cut(n, limit, counts);
     let least = crate::narrow_cells::least_limit(n, counts);
     Reached {
-        verdict: ReachVerdict::Cuts {
-            count: last + 1,
-            least,
-        },
+        count: last + 1,
+        least,
         cuts: list_cuts(last),
     }
 }

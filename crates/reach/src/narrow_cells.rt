@@ -18,11 +18,7 @@ pub(crate) fn furthest_cut(n: usize, limit: usize, counts: &[usize]) -> usize
     requires { CountsReady n counts.now }
     ensures { result ≡ furthest (narrowest_in counts.now) limit n }
 {
-    let mut h = 0;
-    while h < n && narrowest(h, counts) <= limit {
-        h += 1;
-    }
-    h
+    (0..n).find(|h| limit < narrowest(*h, counts)).unwrap_or(n)
 }
 
 // The least limit that fits: the widest of those cells from the cuts above the bottom.
@@ -31,13 +27,8 @@ pub(crate) fn least_limit(n: usize, counts: &[usize]) -> usize
     ensures { result ≡ widest_above (narrowest_in counts.now) n }
 {
     let mut least = 0;
-    let mut h = 0;
-    while h < n {
-        let address = narrowest(h, counts);
-        if least < address {
-            least = address;
-        }
-        h += 1;
+    for h in 0..n {
+        least = least.max(narrowest(h, counts));
     }
     least
 }

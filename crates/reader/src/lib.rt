@@ -6,91 +6,85 @@ mod operand_rules;
 mod places;
 mod rules;
 
-ghost use Rattle.std.specs.Prelude.{◌≡◌, ◌<◌};
+ghost use Rattle.std.specs.Prelude.{◌≡◌};
 ghost use Rattle.numbers.specs.Answers.{map_answer};
+ghost use Rattle.numbers.specs.Refusals.{answer_of};
 ghost use Rattle.image.specs.Inner.Bounds.{WithinBounds, IsDue};
 ghost use Rattle.image.specs.Inner.GivenN.{has_other_n};
-ghost use Rattle.numbers.specs.Inner.Checks.{checked};
-ghost use Rattle.image.specs.Reader.{judged, step, stepped, reading, reading_for};
+ghost use Rattle.image.specs.Reader.{judged, step, reading, reading_for};
 
-use image::{Command, Place, Step};
-use numbers::Checked;
+use image::{Command, Place};
+use numbers::Refusal;
 
 // What is judged of a command whose operands are all there.
-fn judge(image: &[u8], place: Place, command: Command) -> Step
+#[tactic(auto, unfolding(image::specs::Reader::judged, numbers::specs::Refusals::answer_of, numbers::specs::Refusals::number))]
+fn judge(image: &[u8], place: Place, command: Command) -> Result<(Command, Place), Refusal>
     requires { IsDue place command }
-    ensures { stepped result ≡ judged image.now place command }
+    ensures { answer_of result ≡ judged image.now place command }
 {
-    if crate::rules::keeps_rules(place, command) {
-        if crate::rules::ends_well(image, place, command) {
-            return Step::Read(command, crate::places::place_after(place, command));
-        }
-        return Step::Refused(14);
+    if !rules::keeps_rules(place, command) {
+        return Err(Refusal::Operand);
     }
-    Step::Refused(13)
+    if !rules::ends_well(image, place, command) {
+        return Err(Refusal::Trailing);
+    }
+    Ok((command, places::place_after(place, command)))
 }
 
 // One step of the reader, in the paper's order of checks.
-fn read_step(image: &[u8], place: Place) -> Step
+#[tactic(auto, using(std::proofs::lemmas::Bool::Decides::nat_tests), unfolding(image::specs::Reader::step, numbers::specs::Refusals::answer_of, numbers::specs::Refusals::number))]
+fn read_step(image: &[u8], place: Place) -> Result<(Command, Place), Refusal>
     requires { WithinBounds place }
-    ensures { stepped result ≡ step image.now place }
+    ensures { answer_of result ≡ step image.now place }
 {
-    if !crate::rules::width_is_least(place) {
-        return Step::Refused(13);
+    if !rules::width_is_least(place) {
+        return Err(Refusal::Operand);
     }
-    let at = place.at;
-    if image.len() <= at {
-        return Step::Refused(11);
+    let Some(&byte) = image.get(place.at) else {
+        return Err(Refusal::CutOff);
+    };
+    let kind = commands::due_kind(place);
+    if byte != kind.byte() {
+        return Err(Refusal::Command);
     }
-    let kind = crate::commands::due_kind(place);
-    if operands::byte(image, at) != crate::commands::command_byte(kind) {
-        return Step::Refused(12);
+    if image.len() - place.at < kind.size() {
+        return Err(Refusal::CutOff);
     }
-    if image.len() - at < crate::commands::command_size(kind) {
-        return Step::Refused(11);
-    }
-    judge(image, place, crate::commands::command_at(image, at, kind))
+    judge(image, place, commands::command_at(image, place.at, kind))
 }
 
-// The image is checked from the left, a step at a time.
-pub fn check(image: &[u8]) -> Checked
-    ensures { checked result ≡ map_answer (λ commands. tt) (reading image.now) }
+// The image is checked from the left, a step at a time, from the place where all numbers are 0.
+pub fn check(image: &[u8]) -> Result<(), Refusal>
+    ensures { answer_of result ≡ map_answer (λ commands. tt) (reading image.now) }
 {
-    let mut place = crate::places::start_place();
+    let mut place = Place::default();
+    // Kept: each turn reads a command, which says where the next begins.
     loop {
-        match read_step(image, place) {
-            Step::Refused(number) => {
-                return Checked::Refused(number);
-            }
-            Step::Read(command, next) => {
-                if crate::rules::is_end(command) {
-                    return Checked::Passed;
-                }
-                place = next;
-            }
+        let (command, next) = read_step(image, place)?;
+        if command.is_end() {
+            return Ok(());
         }
+        place = next;
     }
 }
 
 // Whether a whole 0x56 stands first and carries another n: 13, whatever else is wrong with it.
+#[tactic(auto, using(std::proofs::lemmas::Bool::Decides::nat_tests), unfolding(image::specs::Inner::GivenN::has_other_n))]
 fn has_other_n(image: &[u8], n: usize) -> bool
     ensures { result ≡ has_other_n n image.now }
 {
-    if image.len() < image::TABLE_SIZE {
-        return false;
-    }
-    if operands::byte(image, 0) != 0x56 {
-        return false;
-    }
-    operands::byte(image, 1) != n
+    image::TABLE_SIZE <= image.len()
+        && operands::byte(image, 0) == 0x56
+        && operands::byte(image, 1) != n
 }
 
 // The same check for a given n, which the first command must carry.
-pub fn check_for(image: &[u8], n: usize) -> Checked
-    ensures { checked result ≡ map_answer (λ commands. tt) (reading_for n image.now) }
+#[tactic(auto, using(image::proofs::Laws::ReadingFor::other_refused, image::proofs::Laws::ReadingFor::other_not), unfolding(numbers::specs::Refusals::answer_of, numbers::specs::Refusals::number))]
+pub fn check_for(image: &[u8], n: usize) -> Result<(), Refusal>
+    ensures { answer_of result ≡ map_answer (λ commands. tt) (reading_for n image.now) }
 {
     if has_other_n(image, n) {
-        return Checked::Refused(13);
+        return Err(Refusal::Operand);
     }
     check(image)
 }

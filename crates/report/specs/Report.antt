@@ -1,11 +1,12 @@
 -- The report: count, least, greatest and sum of the values that a record list gives from X = a to X = b.
-use Rattle.std.specs.Prelude.{ℕ, suc, ◌-◌, ◌^◌, Bool, ◌&&◌, List, map, length, leb, ltb, ℤ}
-use Rattle.numbers.specs.Answers.{Answer, accepted, refused, unless}
+use Rattle.std.specs.Prelude.{ℕ, suc, ◌-◌, ◌^◌, Bool, ◌&&◌, List, map, length, leb, ltb, ℤ, Result}
+use Rattle.numbers.specs.Answers.{Answer, accepted, unless, map_answer}
+use Rattle.numbers.specs.Refusals.{answer_of}
+use Rattle.numbers.specs.declared.Refusal.{Refusal}
 use Rattle.numbers.specs.Extremes.{least_of, greatest_of}
 use Rattle.numbers.specs.Lists.{numbers_from, exact_sum}
 use Rattle.diagram.specs.Walk.{walk_value, of_list}
 use Rattle.report.specs.declared.Reported.{Reported}
-use Rattle.report.specs.declared.Reported.TheVariants.{Report, Refused}
 
 -- Walk's values at X from a to b, both included.
 unfoldable pub values_from : ℕ → ℤ → List ℤ → ℕ → ℕ → List ℤ
@@ -29,7 +30,10 @@ is_part n a b = leb a b && ltb b (2 ^ n)
 unfoldable pub report : ℕ → ℤ → List ℤ → ℕ → ℕ → Answer Figures
 report n offset list a b = of_list n offset list (unless (is_part n a b) 15 (accepted (figures_of (values_from n offset list a b))))
 
--- The answer that a value of the enum stands for.
-unfoldable pub reported : Reported → Answer Figures
-reported (Report count least greatest sum) = accepted (record { count = count; least = least; greatest = greatest; sum = sum })
-reported (Refused number) = refused number
+-- The figures that the operation's struct has.
+unfoldable pub figures_in : Reported → Figures
+figures_in r = record { count = r.count; least = r.least; greatest = r.greatest; sum = r.sum }
+
+-- The answer that a result stands for.
+unfoldable pub reported : Result Reported Refusal → Answer Figures
+reported result = map_answer figures_in (answer_of result)

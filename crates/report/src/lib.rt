@@ -6,54 +6,46 @@ mod tops;
 
 ghost use Rattle.std.specs.Prelude.{◌≡◌, true, ◌<◌};
 ghost use Rattle.diagram.specs.Inner.Edges.{Passing};
-ghost use Rattle.numbers.specs.Answers.{accepted};
-ghost use Rattle.report.specs.Report.{values_from, figures_of, is_part, report, reported};
+ghost use Rattle.report.specs.Report.{values_from, figures_of, figures_in, is_part, report, reported};
 
-use numbers::Checked;
+use numbers::Refusal;
 
-// The report's answer.
-#[derive(Clone, Copy)]
-pub enum Reported {
-    Report {
-        count: usize,
-        least: i32,
-        greatest: i32,
-        sum: i64,
-    },
-    Refused(u8),
+// What the report answers: how many values there are, the least, the greatest and the sum of them.
+#[derive(Clone, Copy, Debug, PartialEq, Eq)]
+pub struct Reported {
+    pub count: usize,
+    pub least: i32,
+    pub greatest: i32,
+    pub sum: i64,
 }
 
 // Whether X from a to b is a part of the domain.
+#[tactic(auto, unfolding(crate::specs::Report::is_part))]
 fn is_part(n: usize, a: usize, b: usize) -> bool
     requires { n < 64 }
     ensures { result ≡ is_part n a b }
 {
-    if b < a {
-        return false;
-    }
-    b < numbers::arithmetic::power(n)
+    a <= b && b < numbers::arithmetic::power(n)
 }
 
 // The figures of the values at X from a to b.
 fn figures(n: usize, offset: i32, records: &[i32], a: usize, b: usize) -> Reported
     requires { Passing n offset records.now × (is_part n a b ≡ true) }
-    ensures { reported result ≡ accepted (figures_of (values_from n offset records.now a b)) }
+    ensures { figures_in result ≡ figures_of (values_from n offset records.now a b) }
 {
     let mut top = crate::tops::top_at(n, offset, records, a);
     let first = crate::tops::value_below(n, records, top, a);
     let mut least = first;
     let mut greatest = first;
     let mut sum = first as i64;
-    let mut x = a;
-    while x < b {
+    for x in a..b {
         top = crate::tops::next_top(n, offset, records, x, top);
-        x += 1;
-        let value = crate::tops::value_below(n, records, top, x);
+        let value = crate::tops::value_below(n, records, top, x + 1);
         least = numbers::arithmetic::lesser_of(least, value);
         greatest = numbers::arithmetic::greater_of(greatest, value);
         sum += value as i64;
     }
-    Reported::Report {
+    Reported {
         count: b - a + 1,
         least,
         greatest,
@@ -61,23 +53,19 @@ fn figures(n: usize, offset: i32, records: &[i32], a: usize, b: usize) -> Report
     }
 }
 
-// The report for a list that passed its checks.
-fn report_checked(n: usize, offset: i32, records: &[i32], a: usize, b: usize) -> Reported
-    requires { Passing n offset records.now }
-    ensures { reported result ≡ report n offset records.now a b }
-{
-    if !is_part(n, a, b) {
-        return Reported::Refused(15);
-    }
-    figures(n, offset, records, a, b)
-}
-
 // Count, least, greatest and sum of the values that a record list gives at X from a to b, both included.
-pub fn report(n: usize, offset: i32, records: &[i32], a: usize, b: usize) -> Reported
+pub fn report(
+    n: usize,
+    offset: i32,
+    records: &[i32],
+    a: usize,
+    b: usize,
+) -> Result<Reported, Refusal>
     ensures { reported result ≡ report n offset records.now a b }
 {
-    match walker::lists::check_list(n, offset, records) {
-        Checked::Refused(number) => Reported::Refused(number),
-        Checked::Passed => report_checked(n, offset, records, a, b),
+    walker::lists::check_list(n, offset, records)?;
+    if !is_part(n, a, b) {
+        return Err(Refusal::Part);
     }
+    Ok(figures(n, offset, records, a, b))
 }

@@ -6,13 +6,11 @@ ghost use Rattle.report.specs.Inner.Tops.{lowest_of, top_at};
 use diagram::Waypoint;
 
 // How many variables are the lowest.
+#[tactic(auto, unfolding(crate::specs::Inner::Tops::lowest_of))]
 fn lowest(n: usize) -> usize
     ensures { result ≡ lowest_of n }
 {
-    if n < 3 {
-        return n;
-    }
-    3
+    n.min(3)
 }
 
 // What the path of X reaches from the root with the lowest variables still to be read.

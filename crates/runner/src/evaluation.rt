@@ -1,12 +1,13 @@
 // The evaluation of an accepted image, by its words in place.
 ghost use Rattle.std.specs.Prelude.{◌≡◌, ℕ, ◌+◌, ◌^◌, ◌≤◌, ◌<◌, length};
-ghost use Rattle.image.specs.Inner.Evaluation.{Accepted, card_read, result_of, first_progress, group_at, word_place, next_place, cell_read, CellThere, CellAhead};
-ghost use Rattle.image.specs.Run.{group_value, run_card};
+ghost use Rattle.image.specs.Inner.Evaluation.{Accepted, card_read, first_progress, group_at, word_place, next_place, cell_read, CellThere, CellAhead};
+ghost use Rattle.image.specs.Run.{group_value, result_of, run_card};
 ghost use Rattle.image.specs.Commands.{table_size};
 
 use image::{Evaluated, Progress};
 
 // Where evaluation starts: behind the table command, with its offset and class 0.
+#[tactic(auto, unfolding(image::specs::Inner::Evaluation::first_progress))]
 fn first_progress(image: &[u8]) -> Progress
     requires { table_size ≤ length image.now }
     ensures { result ≡ first_progress image.now }
@@ -21,6 +22,7 @@ fn first_progress(image: &[u8]) -> Progress
 }
 
 // The bits of X that a group takes: the top ones of the variables left.
+#[tactic(auto, unfolding(image::specs::Run::group_value))]
 fn group_value(left: usize, group: usize, x: usize) -> usize
     requires { (group ≤ left) × (left ≤ 12) }
     ensures { result ≡ group_value left group x }
@@ -29,6 +31,7 @@ fn group_value(left: usize, group: usize, x: usize) -> usize
 }
 
 // Where the word for a class and a group value stands, in a cell whose words begin at a place.
+#[tactic(auto, unfolding(image::specs::Inner::Evaluation::word_place))]
 pub(crate) fn word_place(words: usize, group: usize, class: usize, v: usize) -> usize
     requires { (group ≤ 12) × (word_place words group class v < 2 ^ 63) }
     ensures { result ≡ word_place words group class v }
@@ -37,6 +40,7 @@ pub(crate) fn word_place(words: usize, group: usize, class: usize, v: usize) -> 
 }
 
 // Behind the last word of the cell at a place.
+#[tactic(auto, unfolding(image::specs::Inner::Evaluation::next_place, image::specs::Inner::Evaluation::first_word))]
 pub(crate) fn next_place(image: &[u8], at: usize, group: usize) -> usize
     requires { (group ≡ group_at image.now at) × ((left : ℕ) × CellThere image.now left at) }
     ensures { result ≡ next_place image.now at }
@@ -46,6 +50,7 @@ pub(crate) fn next_place(image: &[u8], at: usize, group: usize) -> usize
 }
 
 // One word of the cell ahead is read, at its place.
+#[tactic(auto, using(image::proofs::Laws::Evaluating::command_room, image::proofs::Laws::Evaluating::group_narrow), unfolding(numbers::specs::Ranges::most_variables, image::specs::Inner::Evaluation::group_at, image::specs::Inner::Evaluation::first_word, image::specs::Inner::Evaluation::word_ahead, image::specs::Inner::Evaluation::cell_read))]
 fn read_cell(image: &[u8], x: usize, progress: Progress) -> Progress
     requires { CellAhead image.now x progress }
     ensures { result ≡ cell_read image.now x progress }
@@ -66,11 +71,13 @@ fn read_cell(image: &[u8], x: usize, progress: Progress) -> Progress
 }
 
 // The card's answer at X, from the words in place.
+#[tactic(auto, using(image::proofs::Laws::Evaluating::first_room, image::proofs::Laws::Evaluating::first_evaluating, image::proofs::Laws::Evaluating::cell_passed))]
 pub(crate) fn evaluate(image: &[u8], x: usize) -> Evaluated
     requires { Accepted image.now }
     ensures { result_of result ≡ run_card (card_read image.now) x }
 {
     let mut progress = first_progress(image);
+    // Kept: each turn takes the variables of one group.
     while 0 < progress.left {
         progress = read_cell(image, x, progress);
     }
@@ -81,6 +88,7 @@ pub(crate) fn evaluate(image: &[u8], x: usize) -> Evaluated
 }
 
 // The number of variables of an accepted image.
+#[tactic(auto, using(image::proofs::Laws::Evaluating::first_room, image::proofs::Laws::Evaluating::variables_read))]
 pub(crate) fn variables(image: &[u8]) -> usize
     requires { Accepted image.now }
     ensures { result ≡ (card_read image.now).n }

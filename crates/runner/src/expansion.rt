@@ -5,6 +5,8 @@ ghost use Rattle.image.specs.Inner.Evaluation.{Accepted, card_read, classes_belo
 
 // What a cell makes of the class and the value of each block of the cut above it: those of the first so many blocks of the cut
 // below, each by its word. From the last block down, what is still to be read stands no further right than what is written.
+// Kept: a row beside the table, since both are read and written here.
+#[tactic(auto, unfolding(numbers::specs::Ranges::most_variables))]
 fn spread(
     image: &[u8],
     words: usize,
@@ -18,9 +20,7 @@ fn spread(
     ensures table_after { table.new ≡ overwritten table.old 0 (values_below image.now words group count classes.old table.old) }
 {
     let size = 1 << group;
-    let mut y = count;
-    while 0 < y {
-        y -= 1;
+    for y in (0..count).rev() {
         let above = y / size;
         let word = crate::evaluation::word_place(words, group, classes[above] as usize, y % size);
         let class = operands::read_two(image, word + 1);
@@ -31,6 +31,7 @@ fn spread(
 }
 
 // The value at every X, in a table that has a place for each.
+#[tactic(auto, using(image::proofs::Laws::Evaluating::first_room, image::proofs::Laws::Evaluating::variables_read), unfolding(image::specs::Inner::Evaluation::group_at, image::specs::Inner::Evaluation::first_word))]
 pub(crate) fn fill(image: &[u8], table: &mut [i32])
     requires { Accepted image.now × (length table.old ≡ 2 ^ (card_read image.now).n) }
     ensures { table.new ≡ values_to (card_read image.now) (length table.old) }
@@ -40,6 +41,7 @@ pub(crate) fn fill(image: &[u8], table: &mut [i32])
     let mut left = crate::evaluation::variables(image);
     let mut count = 1;
     table[0] = operands::read_signed(image, 2);
+    // Kept: each turn takes the variables of one group.
     while 0 < left {
         let group = operands::read_one(image, at + 1);
         left -= group;

@@ -4,56 +4,53 @@
 mod evaluation;
 mod expansion;
 
-ghost use Rattle.std.specs.Prelude.{◌≡◌, ◌<◌, length};
+ghost use Rattle.std.specs.Prelude.{◌≡◌};
 ghost use Rattle.image.specs.Inner.Evaluation.{Accepted};
 ghost use Rattle.image.specs.Run.{Expands, run, ran};
 
-use image::{Expanded, Ran};
-use numbers::Checked;
+use image::Evaluated;
+use numbers::Refusal;
 
 // Run of an image that is known to be accepted: it is not checked again.
-pub fn run_accepted(image: &[u8], x: usize) -> Ran
+#[tactic(auto, using(image::proofs::Laws::Evaluating::variables_size, image::proofs::Laws::Running::run_late, image::proofs::Laws::Running::run_value), unfolding(numbers::specs::Refusals::answer_of, numbers::specs::Refusals::number, image::specs::Run::ran))]
+pub fn run_accepted(image: &[u8], x: usize) -> Result<Evaluated, Refusal>
     requires { Accepted image.now }
     ensures { ran result ≡ run image.now x }
 {
-    if (1 << crate::evaluation::variables(image)) <= x {
-        return Ran::Refused(7);
+    if (1 << evaluation::variables(image)) <= x {
+        return Err(Refusal::Index);
     }
-    let evaluated = crate::evaluation::evaluate(image, x);
-    Ran::Value {
-        value: evaluated.value,
-        words: evaluated.words,
-    }
+    Ok(evaluation::evaluate(image, x))
 }
 
 // Run: the image is checked whole, then X, then one word is read in each cell.
-pub fn run(image: &[u8], x: usize) -> Ran
+#[tactic(auto, using(image::proofs::Laws::Running::check_refuses, image::proofs::Laws::Running::check_accepts, image::proofs::Laws::Running::run_refused), unfolding(numbers::specs::Refusals::answer_of, image::specs::Run::ran, image::proofs::Laws::Reading::done))]
+pub fn run(image: &[u8], x: usize) -> Result<Evaluated, Refusal>
     ensures { ran result ≡ run image.now x }
 {
-    match reader::check(image) {
-        Checked::Refused(number) => Ran::Refused(number),
-        Checked::Passed => run_accepted(image, x),
-    }
+    reader::check(image)?;
+    run_accepted(image, x)
 }
 
 // Expand of an image that is known to be accepted.
-fn expand_accepted(image: &[u8], table: &mut [i32]) -> Expanded
+#[tactic(auto, using(image::proofs::Laws::Evaluating::variables_size))]
+fn expand_accepted(image: &[u8], table: &mut [i32]) -> Result<(), Refusal>
     requires { Accepted image.now }
     ensures { Expands image.now table.old result table.new }
 {
-    if table.len() != 1 << crate::evaluation::variables(image) {
-        return Expanded::Refused(2);
+    if table.len() != 1 << evaluation::variables(image) {
+        return Err(Refusal::Length);
     }
-    crate::expansion::fill(image, table);
-    Expanded::Table
+    expansion::fill(image, table);
+    Ok(())
 }
 
 // Expand: the image is checked whole, then the buffer, then Run's value is written for every X.
-pub fn expand(image: &[u8], table: &mut [i32]) -> Expanded
+// Kept: two lines like run's, which a function over closures would not shorten.
+#[tactic(auto, using(image::proofs::Laws::Running::check_accepts), unfolding(numbers::specs::Refusals::answer_of, image::proofs::Laws::Reading::done))]
+pub fn expand(image: &[u8], table: &mut [i32]) -> Result<(), Refusal>
     ensures { Expands image.now table.old result table.new }
 {
-    match reader::check(image) {
-        Checked::Refused(number) => Expanded::Refused(number),
-        Checked::Passed => expand_accepted(image, table),
-    }
+    reader::check(image)?;
+    expand_accepted(image, table)
 }

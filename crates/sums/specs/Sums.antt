@@ -1,13 +1,13 @@
 -- Weighted sums: the table of the sums of weights, one weight for each bit of X, and the table of their remainders by 2^q.
-use Rattle.std.specs.Prelude.{ℕ, suc, ◌-◌, ◌%◌, ◌^◌, ◌≤◌, ◌<◌, ◌≡◌, Bool, ◌&&◌, not, List, map, length, get_or, leb, eqb, ℤ, pos, negsuc}
+use Rattle.std.specs.Prelude.{ℕ, suc, ◌-◌, ◌%◌, ◌^◌, ◌≤◌, ◌<◌, ◌≡◌, Bool, ◌&&◌, not, List, map, length, get_or, leb, eqb, ℤ, pos, negsuc, Result}
 use Rattle.std.specs.Int.Signed.{lt_z}
-use Rattle.numbers.specs.Answers.{Answer, accepted, refused, unless, map_answer, buffer_after}
+use Rattle.numbers.specs.Answers.{Answer, accepted, unless, map_answer, buffer_after}
 use Rattle.numbers.specs.Conditions.{Variables, TableValue}
 use Rattle.numbers.specs.Lists.{numbers_from, every, keep, exact_sum}
 use Rattle.numbers.specs.Ranges.{is_variables, is_value, eq_z}
+use Rattle.numbers.specs.Refusals.{answer_of}
+use Rattle.numbers.specs.declared.Refusal.{Refusal}
 use Rattle.diagram.specs.Walk.{bit_set}
-use Rattle.sums.specs.declared.Summed.{Summed}
-use Rattle.sums.specs.declared.Summed.TheVariants.{Table, Refused}
 
 -- The sum at X: that of the weights whose bits of X are 1, weight j belonging to bit j.
 unfoldable pub sum_at : List ℤ → ℕ → ℤ
@@ -71,12 +71,7 @@ plain_sum n weights room = of_weights n weights (unless (every is_value (sum_tab
 unfoldable pub reduced_sum : ℕ → List ℤ → ℕ → ℕ → Answer (List ℤ)
 reduced_sum n weights q room = of_weights n weights (unless (is_remainder_bits q) 19 (into_room n room (remainder_table q weights)))
 
--- The answer that a value of the enum stands for.
-unfoldable pub summed : Summed → Answer (Unit {0})
-summed Table = accepted tt
-summed (Refused number) = refused number
-
 -- The promise of both: the answer, and what the table buffer then holds.
-pub record Fills (answer : Answer (List ℤ)) (buffer : List ℤ) (r : Summed) (after : List ℤ) : Type 0 where
-  pub answered : summed r ≡ map_answer (λ table. tt) answer
+pub record Fills (answer : Answer (List ℤ)) (buffer : List ℤ) (r : Result Unit Refusal) (after : List ℤ) : Type 0 where
+  pub answered : answer_of r ≡ map_answer (λ table. tt) answer
   pub filled : after ≡ buffer_after answer (λ table. table) buffer

@@ -6,64 +6,37 @@ mod sum_tables;
 mod weight_lists;
 
 ghost use Rattle.std.specs.Prelude.{length};
-ghost use Rattle.sums.specs.Sums.{Weighted, plain_sum, reduced_sum, Fills};
+ghost use Rattle.sums.specs.Sums.{plain_sum, reduced_sum, Fills};
 
-use numbers::Checked;
-
-// What Sum and Remainder answer beside their table buffer.
-#[derive(Clone, Copy)]
-pub enum Summed {
-    Table,
-    Refused(u8),
-}
-
-// Sum of an accepted weight list.
-fn sum_weighted(n: usize, weights: &[i32], table: &mut [i32]) -> Summed
-    requires { Weighted n weights.now }
-    ensures { Fills (plain_sum n weights.now (length table.old)) table.old result table.new }
-{
-    if !crate::weight_lists::sums_fit(weights) {
-        return Summed::Refused(18);
-    }
-    if table.len() != numbers::arithmetic::power(n) {
-        return Summed::Refused(2);
-    }
-    crate::sum_tables::write_sums(weights, table);
-    Summed::Table
-}
+use numbers::Refusal;
 
 // Sum: the sums of the weights whose bits are 1, at every X, or a refusal.
-pub fn sum(n: usize, weights: &[i32], table: &mut [i32]) -> Summed
+pub fn sum(n: usize, weights: &[i32], table: &mut [i32]) -> Result<(), Refusal>
     ensures { Fills (plain_sum n weights.now (length table.old)) table.old result table.new }
 {
-    match crate::weight_lists::check_weights(n, weights) {
-        Checked::Refused(number) => Summed::Refused(number),
-        Checked::Passed => sum_weighted(n, weights, table),
-    }
-}
-
-// Remainder of an accepted weight list.
-fn remainder_weighted(n: usize, weights: &[i32], q: usize, table: &mut [i32]) -> Summed
-    requires { Weighted n weights.now }
-    ensures { Fills (reduced_sum n weights.now q (length table.old)) table.old result table.new }
-{
-    if !crate::weight_lists::is_remainder_bits(q) {
-        return Summed::Refused(19);
+    crate::weight_lists::check_weights(n, weights)?;
+    if !crate::weight_lists::sums_fit(weights) {
+        return Err(Refusal::Sum);
     }
     if table.len() != numbers::arithmetic::power(n) {
-        return Summed::Refused(2);
+        return Err(Refusal::Length);
     }
     crate::sum_tables::write_sums(weights, table);
-    crate::sum_tables::reduce(q, table);
-    Summed::Table
+    Ok(())
 }
 
 // Remainder: those sums reduced to 0..2^q - 1, also where they are no values, or a refusal.
-pub fn remainder(n: usize, weights: &[i32], q: usize, table: &mut [i32]) -> Summed
+pub fn remainder(n: usize, weights: &[i32], q: usize, table: &mut [i32]) -> Result<(), Refusal>
     ensures { Fills (reduced_sum n weights.now q (length table.old)) table.old result table.new }
 {
-    match crate::weight_lists::check_weights(n, weights) {
-        Checked::Refused(number) => Summed::Refused(number),
-        Checked::Passed => remainder_weighted(n, weights, q, table),
+    crate::weight_lists::check_weights(n, weights)?;
+    if !crate::weight_lists::is_remainder_bits(q) {
+        return Err(Refusal::RemainderBits);
     }
+    if table.len() != numbers::arithmetic::power(n) {
+        return Err(Refusal::Length);
+    }
+    crate::sum_tables::write_sums(weights, table);
+    crate::sum_tables::reduce(q, table);
+    Ok(())
 }

@@ -10,11 +10,9 @@ fn add_weight(table: &mut [i32], half: usize, weight: i32)
     requires { MayDouble table.old half weight }
     ensures { table.new ≡ overwritten table.old half (map (λ v. v +ℤ weight) (take half table.old)) }
 {
-    let mut x = 0;
-    while x < half {
-        let value = table[x] + weight;
-        table[half + x] = value;
-        x += 1;
+    // Kept: by index, since a proof is not told what is written through `split_at_mut`.
+    for x in 0..half {
+        table[half + x] = table[x] + weight;
     }
 }
 
@@ -24,21 +22,17 @@ pub(crate) fn write_sums(weights: &[i32], table: &mut [i32])
     ensures { table.new ≡ sum_table weights.now }
 {
     table[0] = 0;
-    let mut j = 0;
-    while j < weights.len() {
-        add_weight(table, numbers::arithmetic::power(j), weights[j]);
-        j += 1;
+    for (j, weight) in weights.iter().enumerate() {
+        add_weight(table, numbers::arithmetic::power(j), *weight);
     }
 }
 
-// The remainder, which is never negative; the machine's has the sign of the value.
+// The remainder, which is never negative.
 fn remainder_of(value: i32, modulus: u32) -> i32
     requires { (0 < modulus) × (modulus ≤ 2048) }
     ensures { result ≡ pos (remainder_by modulus value) }
 {
-    let divisor = modulus as i32;
-    let rest = value % divisor;
-    if rest < 0 { rest + divisor } else { rest }
+    value.rem_euclid(modulus as i32)
 }
 
 // Every value's remainder by 2^q in its place.
@@ -47,10 +41,7 @@ pub(crate) fn reduce(q: usize, table: &mut [i32])
     ensures { table.new ≡ map (λ z. pos (remainder_by (2 ^ q) z)) table.old }
 {
     let modulus = numbers::arithmetic::power(q) as u32;
-    let mut x = 0;
-    while x < table.len() {
-        let value = remainder_of(table[x], modulus);
-        table[x] = value;
-        x += 1;
+    for value in table.iter_mut() {
+        *value = remainder_of(*value, modulus);
     }
 }

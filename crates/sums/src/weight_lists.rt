@@ -2,27 +2,27 @@
 ghost use Rattle.std.specs.Prelude.{◌≡◌};
 ghost use Rattle.numbers.specs.Lists.{every};
 ghost use Rattle.numbers.specs.Ranges.{is_value};
-ghost use Rattle.numbers.specs.Inner.Checks.{checked};
+ghost use Rattle.numbers.specs.Refusals.{answer_of};
 ghost use Rattle.sums.specs.Sums.{sum_table, is_remainder_bits};
 ghost use Rattle.sums.specs.Inner.Summable.{Summable};
 ghost use Rattle.sums.specs.Inner.Checks.{weight_checks};
 
-use numbers::Checked;
+use numbers::Refusal;
 
 // The checks on a weight list that both operations share, in their order.
-pub(crate) fn check_weights(n: usize, weights: &[i32]) -> Checked
-    ensures { checked result ≡ weight_checks n weights.now }
+pub(crate) fn check_weights(n: usize, weights: &[i32]) -> Result<(), Refusal>
+    ensures { answer_of result ≡ weight_checks n weights.now }
 {
     if !numbers::arithmetic::is_variables(n) {
-        return Checked::Refused(1);
+        return Err(Refusal::Variables);
     }
     if weights.len() != n {
-        return Checked::Refused(2);
+        return Err(Refusal::Length);
     }
     if !diagram::tables::values_fit(weights) {
-        return Checked::Refused(3);
+        return Err(Refusal::Value);
     }
-    Checked::Passed
+    Ok(())
 }
 
 // Whether every sum is a value. The least one is that of the negative weights, the greatest that of the others.
@@ -32,15 +32,12 @@ pub(crate) fn sums_fit(weights: &[i32]) -> bool
 {
     let mut least = 0;
     let mut greatest = 0;
-    let mut j = 0;
-    while j < weights.len() {
-        let weight = weights[j];
-        if weight < 0 {
-            least += weight;
+    for weight in weights {
+        if *weight < 0 {
+            least += *weight;
         } else {
-            greatest += weight;
+            greatest += *weight;
         }
-        j += 1;
     }
     numbers::arithmetic::is_value(least) && numbers::arithmetic::is_value(greatest)
 }
@@ -49,8 +46,5 @@ pub(crate) fn sums_fit(weights: &[i32]) -> bool
 pub(crate) fn is_remainder_bits(q: usize) -> bool
     ensures { result ≡ is_remainder_bits q }
 {
-    if q < 1 {
-        return false;
-    }
-    q <= 11
+    (1..=11).contains(&q)
 }

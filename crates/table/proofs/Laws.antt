@@ -1,39 +1,38 @@
 -- From what a text gives, and the listing of its input, to what is written for the text.
-use Rattle.std.specs.Prelude.{ℕ, ◌≤◌, ◌≡◌, refl, true, List, ◌++◌, length, drop, leb}
+use Rattle.std.specs.Prelude.{ℕ, ◌≤◌, ◌≡◌, refl, true, List, ◌++◌, length, take, drop, leb, Result, Ok, Err}
 use Rattle.std.proofs.Common.{sym, ◌∙◌, arith, length-append, le-leb}
 use Rattle.std.proofs.Math.Path.{ap, subst}
 use Rattle.std.proofs.Math.Nat.{zero-add}
-use Rattle.std.proofs.Math.ListN.{take}
 use Rattle.std.proofs.Math.Seq.{take_at}
 use Rattle.numbers.proofs.Laws.Rows.{overwritten_front}
 use Rattle.lines.specs.Inner.Writing.{Writes}
 use Rattle.decimal.specs.Table.{Read, got, wrong, Table, text_read, input_of, input_room, parsed, parsed_buffer, Reads}
-use Rattle.decimal.specs.declared.Expected.{Expected}
-use Rattle.decimal.specs.declared.Parsed.{Parsed}
-use Rattle.decimal.specs.declared.Parsed.TheVariants.{Input, Wrong, TooShort}
+use Rattle.decimal.specs.declared.Wrong.{Wrong}
+use Rattle.decimal.specs.declared.ParseError.{ParseError}
+use Rattle.decimal.specs.declared.ParseError.TheVariants as errors
 use Rattle.listing.specs.Listing.{listing}
 use Rattle.table.specs.Listed.{answer_of, output_of, ListsText}
-use Rattle.table.specs.declared.Answer.{Answer}
-use Rattle.table.specs.declared.Answer.TheVariants as answers
 
 -- The length of an answered input.
-input_length : Parsed → ℕ
-input_length (Input count) = count
-input_length (Wrong line expected) = 0
-input_length TooShort = 0
+input_length : Result ℕ ParseError → ℕ
+input_length (Ok count) = count
+input_length (Err error) = 0
 
 -- What a text gives where the answer has this form.
-Gives : Read Table → Parsed → Type 0
-Gives read (Input count) = (table : Table) × (read ≡ got table)
-Gives read (Wrong line expected) = read ≡ wrong line expected
-Gives read TooShort = ⊥
+Refuses : Read Table → ParseError → Type 0
+Refuses read (errors.Wrong w) = read ≡ wrong w.line w.expected
+Refuses read errors.TooShort = ⊥
+
+Gives : Read Table → Result ℕ ParseError → Type 0
+Gives read (Ok count) = (table : Table) × (read ≡ got table)
+Gives read (Err error) = Refuses read error
 
 gives : (read : Read Table) → Gives read (parsed read)
-unfolding Gives parsed
+unfolding Gives Refuses parsed
 gives (got table) = (table, refl)
 gives (wrong line expected) = refl
 
-module _ (text buffer : List ℕ) (answer : Parsed) (buffer' : List ℕ) (reads : Reads text buffer answer buffer') (room : input_room ≤ length buffer) where
+module _ (text buffer : List ℕ) (answer : Result ℕ ParseError) (buffer' : List ℕ) (reads : Reads text buffer answer buffer') (room : input_room ≤ length buffer) where
   enough : leb input_room (length buffer) ≡ true
   enough = le-leb input_room (length buffer) room
 
@@ -47,19 +46,19 @@ module _ (text buffer : List ℕ) (answer : Parsed) (buffer' : List ℕ) (reads 
   given = rw answered (gives (text_read text))
 
   -- A buffer with room is not too short.
-  pub room_enough : answer ≡ TooShort → ⊥
-  unfolding Gives
+  pub room_enough : answer ≡ Err errors.TooShort → ⊥
+  unfolding Gives Refuses
   room_enough short = subst (Gives (text_read text)) short given
 
   -- A text that is wrong is listed so.
-  pub wrong_listed : (line : ℕ) (expected : Expected) → answer ≡ Wrong line expected → (out : List ℕ) → ListsText text out (answers.Wrong line expected) out
-  unfolding Gives answer_of output_of
-  wrong_listed line expected is out =
-      let e : text_read text ≡ wrong line expected = subst (Gives (text_read text)) is given in
+  pub wrong_listed : (w : Wrong) → answer ≡ Err (errors.Wrong w) → (out : List ℕ) → ListsText text out (Err w) out
+  unfolding Gives Refuses answer_of output_of
+  wrong_listed w is out =
+      let e : text_read text ≡ wrong w.line w.expected = subst (Gives (text_read text)) is given in
       record { answered = rw e; left = rw e }
 
   -- A text that gives a table leaves its input in front.
-  module _ (count : ℕ) (is : answer ≡ Input count) where
+  module _ (count : ℕ) (is : answer ≡ Ok count) where
     table_given : (table : Table) × (text_read text ≡ got table)
     unfolding Gives
     table_given = subst (Gives (text_read text)) is given
@@ -74,21 +73,21 @@ module _ (text buffer : List ℕ) (answer : Parsed) (buffer' : List ℕ) (reads 
     pub input_inside : count ≤ length buffer'
     input_inside = let n = input_front.0 in rw (input_front.1, length-append) (omega arith)
 
-    pub input_listed : (out out' : List ℕ) (size : ℕ) → Writes out 0 (listing (take count buffer')) size out' → ListsText text out (answers.Listing size) out'
+    pub input_listed : (out out' : List ℕ) (size : ℕ) → Writes out 0 (listing (take count buffer')) size out' → ListsText text out (Ok size) out'
     unfolding answer_of output_of
     input_listed out out' size written =
         let t = table_given.0 in
         let front : take count buffer' ≡ input_of t = ap (take count) input_front.1 ∙ take_at (input_of t) (drop (length (input_of t)) buffer) count (sym input_front.0) in
         let w : Writes out 0 (listing (input_of t)) size out' = subst (λ input. Writes out 0 (listing input) size out') front written in
         record {
-          answered = rw table_given.1 (ap answers.Listing (w.behind ∙ zero-add (length (listing (input_of t)))));
+          answered = rw table_given.1 (ap Ok (w.behind ∙ zero-add (length (listing (input_of t)))));
           left = rw table_given.1 (w.written ∙ overwritten_front out (listing (input_of t)));
         }
 
 -- The length of a listing.
-listing_length : Answer → ℕ
-listing_length (answers.Listing size) = size
-listing_length (answers.Wrong line expected) = 0
+listing_length : Result ℕ Wrong → ℕ
+listing_length (Ok size) = size
+listing_length (Err w) = 0
 
 -- An answered listing lies within the bytes written.
 within : (read : Read Table) (out out' : List ℕ) (size : ℕ) → size ≡ listing_length (answer_of read) → out' ≡ output_of read out → size ≤ length out'
@@ -96,6 +95,6 @@ unfolding listing_length answer_of output_of
 within (got table) out out' size s e = rw (e, length-append) (omega arith)
 within (wrong line expected) out out' size s e = omega arith
 
-pub listing_inside : (text out : List ℕ) (answer : Answer) (out' : List ℕ) → ListsText text out answer out' → (size : ℕ) → answer ≡ answers.Listing size → size ≤ length out'
+pub listing_inside : (text out : List ℕ) (answer : Result ℕ Wrong) (out' : List ℕ) → ListsText text out answer out' → (size : ℕ) → answer ≡ Ok size → size ≤ length out'
 unfolding listing_length
 listing_inside text out answer out' lists size is = within (text_read text) out out' size (ap listing_length (sym is ∙ lists.answered)) lists.left

@@ -9,10 +9,7 @@ fn is_below(number: i32, count: usize) -> bool
     requires { 1 ≤ count }
     ensures { result ≡ within (pos 0) (pos (count - 1)) number }
 {
-    if number < 0 {
-        return false;
-    }
-    (number as usize) < count
+    0 <= number && (number as usize) < count
 }
 
 // Whether a child of record k is node 0 or an earlier record of a lower variable.
@@ -20,14 +17,10 @@ fn child_fits(records: &[i32], k: usize, child: i32) -> bool
     requires { Recorded records.now k }
     ensures { result ≡ child_fits records.now k child }
 {
-    if !is_below(child, k) {
-        return false;
-    }
-    if child == 0 {
-        return true;
-    }
-    diagram::records::number_at(records, child as usize, 0)
-        < diagram::records::number_at(records, k, 0)
+    is_below(child, k)
+        && (child == 0
+            || diagram::records::number_at(records, child as usize, 0)
+                < diagram::records::number_at(records, k, 0))
 }
 
 // Whether the variable, the children and the weight of record k fit.
@@ -35,14 +28,8 @@ pub(crate) fn edges_fit(n: usize, records: &[i32], k: usize) -> bool
     requires { (1 ≤ n) × Recorded records.now k }
     ensures { result ≡ edges_fit n records.now k }
 {
-    if !is_below(diagram::records::number_at(records, k, 0), n) {
-        return false;
-    }
-    if !child_fits(records, k, diagram::records::number_at(records, k, 1)) {
-        return false;
-    }
-    if !child_fits(records, k, diagram::records::number_at(records, k, 2)) {
-        return false;
-    }
-    numbers::arithmetic::is_weight(diagram::records::number_at(records, k, 3))
+    is_below(diagram::records::number_at(records, k, 0), n)
+        && child_fits(records, k, diagram::records::number_at(records, k, 1))
+        && child_fits(records, k, diagram::records::number_at(records, k, 2))
+        && numbers::arithmetic::is_weight(diagram::records::number_at(records, k, 3))
 }

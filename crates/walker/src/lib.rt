@@ -1,5 +1,5 @@
 // Walk: the check of a record list, and its value at X.
-#![tactic(auto)]
+#![tactic(auto, unfolding(diagram::specs::Records::record_size))]
 
 mod edges;
 pub mod lists;
@@ -7,11 +7,11 @@ mod node_ranges;
 pub mod paths;
 
 ghost use Rattle.std.specs.Prelude.{◌≡◌};
-ghost use Rattle.diagram.specs.Walk.{walk_value, walk, walked};
+ghost use Rattle.numbers.specs.Refusals.{answer_of};
+ghost use Rattle.diagram.specs.Walk.{walk_value, walk};
 ghost use Rattle.diagram.specs.Inner.Edges.{Passing};
 
-use diagram::Walked;
-use numbers::Checked;
+use numbers::Refusal;
 
 // The offset plus the weights of the 1-edges on the path from the root.
 fn walk_value(n: usize, offset: i32, records: &[i32], x: usize) -> i32
@@ -22,23 +22,13 @@ fn walk_value(n: usize, offset: i32, records: &[i32], x: usize) -> i32
     crate::paths::walk_on(records, 0, n, root, x).value
 }
 
-// Walk for a list that passed its checks.
-fn walk_checked(n: usize, offset: i32, records: &[i32], x: usize) -> Walked
-    requires { Passing n offset records.now }
-    ensures { walked result ≡ walk n offset records.now x }
-{
-    if x >= numbers::arithmetic::power(n) {
-        return Walked::Refused(7);
-    }
-    Walked::Value(walk_value(n, offset, records, x))
-}
-
 // The value that a record list gives at X.
-pub fn walk(n: usize, offset: i32, records: &[i32], x: usize) -> Walked
-    ensures { walked result ≡ walk n offset records.now x }
+pub fn walk(n: usize, offset: i32, records: &[i32], x: usize) -> Result<i32, Refusal>
+    ensures { answer_of result ≡ walk n offset records.now x }
 {
-    match crate::lists::check_list(n, offset, records) {
-        Checked::Refused(number) => Walked::Refused(number),
-        Checked::Passed => walk_checked(n, offset, records, x),
+    crate::lists::check_list(n, offset, records)?;
+    if x >= numbers::arithmetic::power(n) {
+        return Err(Refusal::Index);
     }
+    Ok(walk_value(n, offset, records, x))
 }

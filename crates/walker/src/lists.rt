@@ -1,23 +1,20 @@
 // Record lists: Walk's check of them.
 ghost use Rattle.std.specs.Prelude.{◌≡◌, true};
+ghost use Rattle.numbers.specs.Refusals.{answer_of};
 ghost use Rattle.numbers.specs.Lists.{numbers_from, every};
 ghost use Rattle.numbers.specs.Ranges.{is_variables};
 ghost use Rattle.diagram.specs.Walk.{record_fits, record_count, list_fits};
 ghost use Rattle.diagram.specs.Inner.Checks.{list_checks};
-ghost use Rattle.numbers.specs.Inner.Checks.{checked};
 ghost use Rattle.diagram.specs.Inner.Edges.{Recorded, EarlierPass};
 
-use numbers::Checked;
+use numbers::Refusal;
 
 // Whether record k passes Walk's check, where all records before it do: they tell the ranges of its children.
 fn record_fits(n: usize, records: &[i32], k: usize) -> bool
     requires { (is_variables n ≡ true) × Recorded records.now k × EarlierPass n records.now k }
     ensures { result ≡ record_fits n records.now k }
 {
-    if !crate::edges::edges_fit(n, records, k) {
-        return false;
-    }
-    crate::node_ranges::range_follows(records, k)
+    crate::edges::edges_fit(n, records, k) && crate::node_ranges::range_follows(records, k)
 }
 
 // Whether every record does.
@@ -26,14 +23,7 @@ fn records_fit(n: usize, records: &[i32]) -> bool
     ensures { result ≡ every (record_fits n records.now) (numbers_from 1 (record_count records.now)) }
 {
     let count = records.len() / diagram::records::RECORD_SIZE;
-    let mut k = 1;
-    while k <= count {
-        if !record_fits(n, records, k) {
-            return false;
-        }
-        k += 1;
-    }
-    true
+    (1..=count).all(|k| record_fits(n, records, k))
 }
 
 // Whether a record list passes Walk's check.
@@ -41,27 +31,23 @@ fn list_fits(n: usize, records: &[i32]) -> bool
     requires { is_variables n ≡ true }
     ensures { result ≡ list_fits n records.now }
 {
-    if records.len() % diagram::records::RECORD_SIZE != 0 {
-        return false;
-    }
-    if diagram::records::node_room(n) < records.len() {
-        return false;
-    }
-    records_fit(n, records)
+    records.len() % diagram::records::RECORD_SIZE == 0
+        && records.len() <= diagram::records::node_room(n)
+        && records_fit(n, records)
 }
 
 // The checks on an offset and a record list, in their order.
-pub fn check_list(n: usize, offset: i32, records: &[i32]) -> Checked
-    ensures { checked result ≡ list_checks n offset records.now }
+pub fn check_list(n: usize, offset: i32, records: &[i32]) -> Result<(), Refusal>
+    ensures { answer_of result ≡ list_checks n offset records.now }
 {
     if !numbers::arithmetic::is_variables(n) {
-        return Checked::Refused(1);
+        return Err(Refusal::Variables);
     }
     if !numbers::arithmetic::is_value(offset) {
-        return Checked::Refused(5);
+        return Err(Refusal::Offset);
     }
     if !list_fits(n, records) {
-        return Checked::Refused(6);
+        return Err(Refusal::Records);
     }
-    Checked::Passed
+    Ok(())
 }

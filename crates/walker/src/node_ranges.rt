@@ -42,8 +42,6 @@ pub(crate) fn range_follows(records: &[i32], k: usize) -> bool
     ensures { result ≡ range_follows records.now k }
 {
     let range = range_from(records, k);
-    if diagram::records::number_at(records, k, 4) != range.least {
-        return false;
-    }
-    diagram::records::number_at(records, k, 5) == range.greatest
+    diagram::records::number_at(records, k, 4) == range.least
+        && diagram::records::number_at(records, k, 5) == range.greatest
 }

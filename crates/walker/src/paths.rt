@@ -44,9 +44,7 @@ pub fn walk_on(records: &[i32], low: usize, count: usize, reached: Waypoint, x: 
 {
     let mut value = reached.value;
     let mut node = reached.node;
-    let mut left = count;
-    while 0 < left {
-        left -= 1;
+    for left in (0..count).rev() {
         let edge = edge_at(records, low + left, node, x);
         value += edge.weight;
         node = edge.node;

@@ -1,10 +1,6 @@
 -- `blocks::in_cut` meets its contract.
-use Prim.Native.Nat.{◌+◌, ◌-◌, ◌<◌}
-use mathlib.Core.Path.{ap}
-use native.Mathlib.Omega.{arith}
-use lib.ListN.{length, get_or}
+use Rattle.std.proofs.Common.{rules, ap, ◌+◌, ◌-◌, ◌<◌, length, get_or}
 use lib.Pow.{pow_pos}
-use borrow.Author.Rules.{scaled_Fits}
 use Rattle.blocks.specs.Rows.{cut_place}
 use Rattle.blocks.proofs.in_cut.Goals as goal
 use Rattle.blocks.proofs.in_cut.Goals.{After-power}
@@ -18,10 +14,10 @@ pub overflow_sub-result : goal.overflow_sub-result
 overflow_sub-result c = rw c.power.ensures (pow_pos c.args.h)
 
 pub overflow_add-result : goal.overflow_add-result
-overflow_add-result c = let l = inside c in record { fits = omega arith }
+overflow_add-result c = let l = inside c in search rules
 
 pub offset_bounds-row-power : goal.offset_bounds-row-power
-offset_bounds-row-power c = scaled_Fits (c.power.result - 1 + c.args.k) (length c.args.row.now) 8 (inside c) c.well_formed.0.1
+offset_bounds-row-power c = let l = inside c in search rules
 
 pub bounds-row-power : goal.bounds-row-power
 bounds-row-power c = inside (goal.at.bounds-row-power c).After-power

@@ -1,11 +1,11 @@
 -- The extremes of the first differences of some values, with one difference more, and the range of a block.
-use Rattle.std.specs.Prelude.{ℕ, ◌+◌, ◌*◌, ◌^◌, ◌≤◌, ◌<◌, ◌≡◌, Bool, true, List, length, get_or, take, ℤ, pos, ◌-ℤ◌}
-use Rattle.std.proofs.Common.{◌∙◌, ap, add-one, arith, take-suc, get_or-take, length-take-le, SFits}
+use Rattle.std.specs.Prelude.{ℕ, ◌+◌, ◌-◌, ◌*◌, ◌^◌, ◌≤◌, ◌<◌, ◌≡◌, Bool, true, List, length, get_or, take, drop, ℤ, pos, ◌-ℤ◌}
+use Rattle.std.proofs.Common.{◌∙◌, ap, add-one, arith, take-suc, get_or-take, get_or-drop, length-drop, length-take-le, SFits, of_z, to_z, to_z-of_z}
 use Rattle.std.specs.Int.{w32}
 use Rattle.numbers.specs.Extremes.{least_of, greatest_of}
 use Rattle.numbers.specs.Lists.{every}
 use Rattle.numbers.specs.Ranges.{is_value}
-use Rattle.numbers.proofs.Laws.Bounds.{weight_mag, difference_weight}
+use Rattle.numbers.proofs.Laws.Bounds.{value_mag, weight_mag, difference_weight}
 use Rattle.numbers.proofs.Laws.Extremal.{Extreme}
 use Rattle.numbers.proofs.Laws.Integers.{sub_self}
 use Rattle.numbers.proofs.Laws.Lists.{every_at, every_from}
@@ -41,6 +41,17 @@ unfolding first
 difference_fits values x all h =
     let m = weight_mag (get_or values x (pos 0) -ℤ get_or values 0 (pos 0)) (difference_weight (get_or values x (pos 0)) (get_or values 0 (pos 0)) (every_at is_value values (pos 0) all x h) (every_at is_value values (pos 0) all 0 (omega arith))) in
     record { sfits = omega arith }
+
+-- The values behind the first.
+pub later_count : (values : List ℤ) → length (take (length values - 1) (drop 1 values)) ≡ length values - 1
+later_count values = length-take-le (length values - 1) (drop 1 values) (rw length-drop (omega arith))
+
+pub later_at : (values : List ℤ) (x : ℕ) → x < length values - 1 → get_or (take (length values - 1) (drop 1 values)) x (pos 0) ≡ get_or values (x + 1) (pos 0)
+later_at values x h = get_or-take (length values - 1) (drop 1 values) x (pos 0) h ∙ get_or-drop 1 values x (pos 0) ∙ ap (λ k. get_or values k (pos 0)) (let e : 1 + x ≡ x + 1 = omega arith in e)
+
+-- A value is read as it is.
+pub value_read : (values : List ℤ) (x : ℕ) → every is_value values ≡ true → x < length values → to_z w32 (of_z w32 (get_or values x (pos 0))) ≡ get_or values x (pos 0)
+value_read values x all h = let m = value_mag (get_or values x (pos 0)) (every_at is_value values (pos 0) all x h) in to_z-of_z (let f : SFits w32 (get_or values x (pos 0)) = record { sfits = omega arith } in f)
 
 -- The values of a block are values.
 pub block_values : (table : List ℤ) (i j : ℕ) → every is_value table ≡ true → j * 2 ^ i + 2 ^ i ≤ length table → every is_value (block table i j) ≡ true

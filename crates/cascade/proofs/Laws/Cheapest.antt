@@ -2,7 +2,7 @@
 use Prim.Native.Nat.{ℕ, zero, suc, ◌+◌, ◌-◌, ◌≤◌, ◌<◌}
 use Rattle.std.proofs.Math.Path.{◌≡◌, refl, sym, ap, subst₂}
 use Rattle.std.proofs.Common.{◌∙◌, ap₂, subst}
-use Rattle.std.specs.Prelude.{◌↔◌, ◌⊎◌, Bool, ◌&&◌, ltb}
+use Rattle.std.specs.Prelude.{Option, None, ◌↔◌, ◌⊎◌, Bool, ◌&&◌, ltb}
 use Rattle.std.proofs.Math.Logic.{inl, inr}
 use Rattle.std.proofs.Math.Bool.{true, false}
 use mathlib.Core.List.Memᴰ
@@ -15,9 +15,8 @@ use Rattle.numbers.specs.Lists.{keep}
 use Rattle.numbers.proofs.Laws.Bools.{yes_or_no}
 use Rattle.numbers.proofs.Laws.Selections.{keep_append, keep_map, keep_same, keep_none}
 use Rattle.cascade.specs.Groupings.{descending, groupings, cheapest, first_cheapest, wider_first}
-use Rattle.cascade.specs.Inner.Choices.{price_from, cells_fit, cheapest_from, noted, taken, offered, tried, choices, choice_at, size_of, sizes_from, answered}
+use Rattle.cascade.specs.Inner.Choices.{costing, price_from, cells_fit, cheapest_from, noted, taken, offered, tried, choices, choice_at, size_of, cost_of, sizes_from, answered}
 use Rattle.cascade.specs.declared.Choice.{Choice}
-use Rattle.cascade.specs.declared.Choice.TheVariants.{NoList, Costing}
 use Rattle.cascade.proofs.Laws.Groupings.{WidestFirst, starting_to, groupings_zero, groupings_suc}
 
 -- ---- the cheaper of two
@@ -220,28 +219,28 @@ module _ (price shifted : List ℕ → ℕ) (f : List ℕ → List ℕ) (more : 
 -- ---- a size offered, and sizes tried in turn
 
 -- It costs less and is taken.
-pub offered_less : (size price rest next cost wider : ℕ) → price + rest < cost → offered size price (Costing rest next) (Costing cost wider) ≡ Costing (price + rest) size
+pub offered_less : (size price rest next cost wider : ℕ) → price + rest < cost → offered size price (costing rest next) (costing cost wider) ≡ costing (price + rest) size
 unfolding offered taken
 offered_less size price rest next cost wider h = rw (lt-ltb (price + rest) cost h, taken)
 
 -- It costs no less, and the wider one stays.
-pub offered_stays : (size price rest next cost wider : ℕ) → cost ≤ price + rest → offered size price (Costing rest next) (Costing cost wider) ≡ Costing cost wider
+pub offered_stays : (size price rest next cost wider : ℕ) → cost ≤ price + rest → offered size price (costing rest next) (costing cost wider) ≡ costing cost wider
 unfolding offered taken
 offered_stays size price rest next cost wider h = rw (le-ltb (price + rest) cost h, taken)
 
 module _ (price : ℕ → ℕ → ℕ) (fits_cell : ℕ → ℕ → Bool) where
   -- The cell fits, and its size is offered.
-  pub tried_fits : (below : ℕ → Choice) (h : ℕ) (so_far : Choice) (g : ℕ) → fits_cell h (suc g) ≡ true → tried price fits_cell below h so_far (suc g) ≡ tried price fits_cell below h (offered (suc g) (price h (suc g)) (below (h + suc g)) so_far) g
+  pub tried_fits : (below : ℕ → Option Choice) (h : ℕ) (so_far : Option Choice) (g : ℕ) → fits_cell h (suc g) ≡ true → tried price fits_cell below h so_far (suc g) ≡ tried price fits_cell below h (offered (suc g) (price h (suc g)) (below (h + suc g)) so_far) g
   unfolding tried
   tried_fits below h so_far g e = rw (e, tried)
 
   -- The cell does not fit, and its size is passed over.
-  pub tried_unfit : (below : ℕ → Choice) (h : ℕ) (so_far : Choice) (g : ℕ) → fits_cell h (suc g) ≡ false → tried price fits_cell below h so_far (suc g) ≡ tried price fits_cell below h so_far g
+  pub tried_unfit : (below : ℕ → Option Choice) (h : ℕ) (so_far : Option Choice) (g : ℕ) → fits_cell h (suc g) ≡ false → tried price fits_cell below h so_far (suc g) ≡ tried price fits_cell below h so_far g
   unfolding tried
   tried_unfit below h so_far g e = rw (e, tried)
 
   -- Only the choices at the next g cuts count.
-  pub tried_same : (left right : ℕ → Choice) (h : ℕ) (so_far : Choice) (g : ℕ) → ((cut : ℕ) → h < cut → cut ≤ h + g → left cut ≡ right cut) → tried price fits_cell left h so_far g ≡ tried price fits_cell right h so_far g
+  pub tried_same : (left right : ℕ → Option Choice) (h : ℕ) (so_far : Option Choice) (g : ℕ) → ((cut : ℕ) → h < cut → cut ≤ h + g → left cut ≡ right cut) → tried price fits_cell left h so_far g ≡ tried price fits_cell right h so_far g
   unfolding tried
   tried_same left right h so_far zero k = refl
   tried_same left right h so_far (suc g) k =
@@ -256,18 +255,18 @@ module _ (price : ℕ → ℕ → ℕ) (fits_cell : ℕ → ℕ → Bool) where
 -- ---- the sizes that choices lead to, cell by cell
 
 -- Above the bottom cut comes the size of the choice, and the sizes from where its cell ends.
-pub sizes_step : (at : ℕ → Choice) (n cells h : ℕ) → h < n → sizes_from at n (suc cells) h ≡ size_of (at h) ∷ sizes_from at n cells (h + size_of (at h))
+pub sizes_step : (at : ℕ → Option Choice) (n cells h : ℕ) → h < n → sizes_from at n (suc cells) h ≡ size_of (at h) ∷ sizes_from at n cells (h + size_of (at h))
 unfolding sizes_from
 sizes_step at n cells h p = rw (lt-ltb h n p, sizes_from)
 
 -- At the bottom cut no size is left.
-pub sizes_end : (at : ℕ → Choice) (n cells h : ℕ) → n ≤ h → sizes_from at n cells h ≡ []
+pub sizes_end : (at : ℕ → Option Choice) (n cells h : ℕ) → n ≤ h → sizes_from at n cells h ≡ []
 unfolding sizes_from
 sizes_end at n zero h p = refl
 sizes_end at n (suc cells) h p = rw (le-ltb h n p, sizes_from)
 
 -- Only the choices at the cuts above the bottom one count.
-pub sizes_same : (left right : ℕ → Choice) (n cells h : ℕ) → ((cut : ℕ) → cut < n → left cut ≡ right cut) → sizes_from left n cells h ≡ sizes_from right n cells h
+pub sizes_same : (left right : ℕ → Option Choice) (n cells h : ℕ) → ((cut : ℕ) → cut < n → left cut ≡ right cut) → sizes_from left n cells h ≡ sizes_from right n cells h
 unfolding sizes_from
 sizes_same left right n zero h k = refl
 sizes_same left right n (suc cells) h k =
@@ -349,7 +348,7 @@ module _ (price : ℕ → ℕ → ℕ) (fits_cell : ℕ → ℕ → Bool) where
   starting_takes h m b e = starting_suc h m b ∙ ap (λ answer. first_of_two (price_from price h) answer (cheapest_starting h m b)) (after_fits h (suc b) (groupings (m - suc b)) e)
 
   -- Trying the sizes from b down to 1 notes the first cheapest of an answer so far and the lists that begin with them.
-  noted_tried : (below : ℕ → Choice) (h m : ℕ) (so_far : Answer (List ℕ)) (b : ℕ) → ((g : ℕ) → 1 ≤ g → g ≤ b → below (h + g) ≡ noted price (h + g) (cheapest_from price fits_cell (h + g) (m - g))) → tried price fits_cell below h (noted price h so_far) b ≡ noted price h (first_of_two (price_from price h) so_far (cheapest_starting h m b))
+  noted_tried : (below : ℕ → Option Choice) (h m : ℕ) (so_far : Answer (List ℕ)) (b : ℕ) → ((g : ℕ) → 1 ≤ g → g ≤ b → below (h + g) ≡ noted price (h + g) (cheapest_from price fits_cell (h + g) (m - g))) → tried price fits_cell below h (noted price h so_far) b ≡ noted price h (first_of_two (price_from price h) so_far (cheapest_starting h m b))
   unfolding flat_map descending tried keep first_cheapest cheapest_starting
   noted_tried below h m so_far zero k = sym (noted_nothing h so_far)
   noted_tried below h m so_far (suc b) k =
@@ -368,14 +367,14 @@ module _ (price : ℕ → ℕ → ℕ) (fits_cell : ℕ → ℕ → Bool) where
       rest = cheapest_from price fits_cell (h + suc b) (m - suc b)
 
   -- The choice at a cut, from the choices at the cuts below.
-  noted_step : (below : ℕ → Choice) (h m : ℕ) → ((g : ℕ) → 1 ≤ g → g ≤ suc m → below (h + g) ≡ noted price (h + g) (cheapest_from price fits_cell (h + g) (suc m - g))) → tried price fits_cell below h NoList (suc m) ≡ noted price h (cheapest_from price fits_cell h (suc m))
+  noted_step : (below : ℕ → Option Choice) (h m : ℕ) → ((g : ℕ) → 1 ≤ g → g ≤ suc m → below (h + g) ≡ noted price (h + g) (cheapest_from price fits_cell (h + g) (suc m - g))) → tried price fits_cell below h None (suc m) ≡ noted price h (cheapest_from price fits_cell h (suc m))
   unfolding noted first_of_two
   noted_step below h m k = noted_tried below h (suc m) (refused 9) (suc m) k ∙ ap (noted price h) (starting_all h m)
 
   -- ---- the choices, from the bottom cut up
 
   -- At the bottom cut nothing is left to choose.
-  noted_bottom : (h : ℕ) → noted price h (cheapest_from price fits_cell h 0) ≡ Costing 0 0
+  noted_bottom : (h : ℕ) → noted price h (cheapest_from price fits_cell h 0) ≡ costing 0 0
   unfolding noted price_from
   noted_bottom h = ap (noted price h) (cheapest_from_bottom h)
 
@@ -384,12 +383,12 @@ module _ (price : ℕ → ℕ → ℕ) (fits_cell : ℕ → ℕ → Bool) where
   noted_at m l e f = ap₂ (λ cut left. noted price cut (cheapest_from price fits_cell cut left)) e f
 
   -- Each of the choices notes the first cheapest list of sizes from its cut on.
-  choices_noted : (n m j : ℕ) → m ≤ n → j ≤ m → get_or (choices price fits_cell n m) j NoList ≡ noted price (n - m + j) (cheapest_from price fits_cell (n - m + j) (m - j))
+  choices_noted : (n m j : ℕ) → m ≤ n → j ≤ m → get_or (choices price fits_cell n m) j None ≡ noted price (n - m + j) (cheapest_from price fits_cell (n - m + j) (m - j))
   unfolding choices
   choices_noted n zero zero p q = sym (noted_bottom (n - 0 + 0))
   choices_noted n zero (suc j) p q = absurd (omega arith)
   choices_noted n (suc m) zero p q =
-      noted_step (λ cut. get_or (choices price fits_cell n m) (cut - (n - m)) NoList) (n - suc m) m
+      noted_step (λ cut. get_or (choices price fits_cell n m) (cut - (n - m)) None) (n - suc m) m
       (λ g l r. choices_noted n m (n - suc m + g - (n - m)) (omega arith) (omega arith) ∙ noted_at (m - (n - suc m + g - (n - m))) (suc m - g) (omega arith) (omega arith))
       ∙ noted_at (suc m) (suc m - 0) (omega arith) (omega arith)
   choices_noted n (suc m) (suc j) p q = choices_noted n m j (omega arith) (omega arith) ∙ noted_at (m - j) (suc m - suc j) (omega arith) (omega arith)
@@ -400,16 +399,16 @@ module _ (price : ℕ → ℕ → ℕ) (fits_cell : ℕ → ℕ → Bool) where
   choice_noted n h p = choices_noted n (n - h) 0 (omega arith) (omega arith) ∙ noted_at (n - h - 0) (n - h) (omega arith) (omega arith)
 
   -- At the bottom cut the choice is made: no cost, no size.
-  pub choice_bottom : (n : ℕ) → choice_at price fits_cell n n ≡ Costing 0 0
+  pub choice_bottom : (n : ℕ) → choice_at price fits_cell n n ≡ costing 0 0
   choice_bottom n = choice_noted n n (omega arith) ∙ noted_at (n - n) 0 refl (omega arith) ∙ noted_bottom n
 
   -- At a cut above it, all sizes are tried from the widest down, with the choices at the cuts below.
-  pub choice_step : (n h : ℕ) → h < n → choice_at price fits_cell n h ≡ tried price fits_cell (choice_at price fits_cell n) h NoList (n - h)
+  pub choice_step : (n h : ℕ) → h < n → choice_at price fits_cell n h ≡ tried price fits_cell (choice_at price fits_cell n) h None (n - h)
   choice_step n h p =
       choice_noted n h (omega arith)
       ∙ noted_at (n - h) (suc (n - suc h)) refl (omega arith)
       ∙ sym (noted_step (choice_at price fits_cell n) h (n - suc h) (λ g l r. choice_noted n (h + g) (omega arith) ∙ noted_at (n - (h + g)) (suc (n - suc h) - g) refl (omega arith)))
-      ∙ ap (tried price fits_cell (choice_at price fits_cell n) h NoList) (let e : suc (n - suc h) ≡ n - h = omega arith in e)
+      ∙ ap (tried price fits_cell (choice_at price fits_cell n) h None) (let e : suc (n - suc h) ≡ n - h = omega arith in e)
 
   -- ---- the sizes that the choices lead to
 
@@ -446,17 +445,17 @@ module _ (price : ℕ → ℕ → ℕ) (fits_cell : ℕ → ℕ → Bool) where
   size_and_rest h (suc m) sizes p e = size_and_rest_to h (suc m) (suc m) sizes (starting_all h m ∙ e)
 
   -- What a choice notes of an accepted list.
-  choice_accepted : (n h : ℕ) (sizes : List ℕ) → h ≤ n → cheapest_from price fits_cell h (n - h) ≡ accepted sizes → choice_at price fits_cell n h ≡ Costing (price_from price h sizes) (get_or sizes 0 0)
+  choice_accepted : (n h : ℕ) (sizes : List ℕ) → h ≤ n → cheapest_from price fits_cell h (n - h) ≡ accepted sizes → choice_at price fits_cell n h ≡ costing (price_from price h sizes) (get_or sizes 0 0)
   unfolding noted
   choice_accepted n h sizes p e = choice_noted n h p ∙ ap (noted price h) e
 
   -- The list that a choice notes.
-  accepted_behind : (n h cost size : ℕ) → h ≤ n → choice_at price fits_cell n h ≡ Costing cost size → (sizes : List ℕ) × (cheapest_from price fits_cell h (n - h) ≡ accepted sizes) × (price_from price h sizes ≡ cost) × (get_or sizes 0 0 ≡ size)
-  unfolding noted
+  accepted_behind : (n h cost size : ℕ) → h ≤ n → choice_at price fits_cell n h ≡ costing cost size → (sizes : List ℕ) × (cheapest_from price fits_cell h (n - h) ≡ accepted sizes) × (price_from price h sizes ≡ cost) × (get_or sizes 0 0 ≡ size)
+  unfolding noted cost_of size_of
   accepted_behind n h cost size p e = behind (cheapest_from price fits_cell h (n - h)) refl (sym (choice_noted n h p) ∙ e)
     where
-      behind : (answer : Answer (List ℕ)) → cheapest_from price fits_cell h (n - h) ≡ answer → noted price h answer ≡ Costing cost size → (sizes : List ℕ) × (cheapest_from price fits_cell h (n - h) ≡ accepted sizes) × (price_from price h sizes ≡ cost) × (get_or sizes 0 0 ≡ size)
-      behind (accepted sizes) f q = (sizes, f, cc, cc)
+      behind : (answer : Answer (List ℕ)) → cheapest_from price fits_cell h (n - h) ≡ answer → noted price h answer ≡ costing cost size → (sizes : List ℕ) × (cheapest_from price fits_cell h (n - h) ≡ accepted sizes) × (price_from price h sizes ≡ cost) × (get_or sizes 0 0 ≡ size)
+      behind (accepted sizes) f q = (sizes, f, ap cost_of q, ap size_of q)
       behind (refused k) f q = absurd (let z : ◌≡◌ {A = ℕ} 0 1 = cc in omega arith)
 
   -- No variable is left, and no size.
@@ -499,7 +498,7 @@ module _ (price : ℕ → ℕ → ℕ) (fits_cell : ℕ → ℕ → Bool) where
       either (refused k) e = e ∙ ap refused (refused_by_nine h (n - h) k e) ∙ sym (ap (λ choice. answered choice led) (choice_noted n h p ∙ ap (noted price h) e))
 
   -- A choice costs what the sizes cost that it leads to.
-  pub choice_cost : (n h cost size : ℕ) → h ≤ n → choice_at price fits_cell n h ≡ Costing cost size → price_from price h (sizes_from (choice_at price fits_cell n) n (n - h) h) ≡ cost
+  pub choice_cost : (n h cost size : ℕ) → h ≤ n → choice_at price fits_cell n h ≡ costing cost size → price_from price h (sizes_from (choice_at price fits_cell n) n (n - h) h) ≡ cost
   choice_cost n h cost size p e =
       let r = accepted_behind n h cost size p e in
       ap (price_from price h) (sizes_from_lem (n - h) n h r.0 p (omega arith) r.1) ∙ r.2
@@ -511,7 +510,7 @@ pub record Leads (price : ℕ → ℕ → ℕ) (fits_cell : ℕ → ℕ → Bool
   pub fits : fits_cell h size ≡ true
   pub rest : ℕ
   pub next : ℕ
-  pub below : choice_at price fits_cell n (h + size) ≡ Costing rest next
+  pub below : choice_at price fits_cell n (h + size) ≡ costing rest next
   pub together : cost ≡ price h size + rest
 
 module _ (price : ℕ → ℕ → ℕ) (fits_cell : ℕ → ℕ → Bool) where
@@ -528,7 +527,7 @@ module _ (price : ℕ → ℕ → ℕ) (fits_cell : ℕ → ℕ → Bool) where
   }
 
   -- A choice above the bottom cut leads on.
-  pub choice_leads : (n h cost size : ℕ) → h < n → choice_at price fits_cell n h ≡ Costing cost size → Leads price fits_cell n h cost size
+  pub choice_leads : (n h cost size : ℕ) → h < n → choice_at price fits_cell n h ≡ costing cost size → Leads price fits_cell n h cost size
   unfolding SizeAndRest price_from
   choice_leads n h cost size p e =
       let a = accepted_behind price fits_cell n h cost size (omega arith) e in

@@ -11,8 +11,7 @@ use Rattle.numbers.proofs.Laws.Selections.{keep_same, among_kept, kept_among}
 use Rattle.image.specs.Cells.{bits_of, total_bits}
 use Rattle.cascade.specs.Cascade.{cell_of, cells_from}
 use Rattle.cascade.specs.Groupings.{BestGrouping, groupings, address_width, fits_from, fits, cost, first_cheapest, chosen, is_grouping, wider_first}
-use Rattle.cascade.specs.Inner.Choices.{price_from, cells_fit, cheapest_from, cell_price, cell_fits, sizes_from, answered, table_choice}
-use Rattle.cascade.specs.declared.Choice.TheVariants.{Costing}
+use Rattle.cascade.specs.Inner.Choices.{costing, price_from, cells_fit, cheapest_from, cell_price, cell_fits, sizes_from, answered, table_choice}
 use Rattle.cascade.proofs.Laws.Groupings.{grouping_among, among_grouping, groupings_widest_first, widest_kept, wider_one_way}
 use Rattle.cascade.proofs.Laws.Cheapest.{first_cheapest_none, first_cheapest_nine, first_cheapest_among, first_cheapest_least, first_cheapest_widest, cheapest_by_choices, choice_cost}
 
@@ -120,7 +119,7 @@ chosen_by_choices n table limit =
     chosen_from_top n table limit ∙ rw all at (cheapest_by_choices (cell_price n table) (cell_fits n table limit) n 0 (omega arith))
 
 -- The choice at the top cut costs what the chosen grouping does.
-pub choice_top_cost : (n : ℕ) (table : List ℤ) (limit total size : ℕ) → table_choice n table limit 0 ≡ Costing total size → cost n table (sizes_from (table_choice n table limit) n n 0) ≡ total
+pub choice_top_cost : (n : ℕ) (table : List ℤ) (limit total size : ℕ) → table_choice n table limit 0 ≡ costing total size → cost n table (sizes_from (table_choice n table limit) n n 0) ≡ total
 choice_top_cost n table limit total size e =
     let all : n - 0 ≡ n = omega arith in
     cost_price n table (sizes_from (table_choice n table limit) n n 0)

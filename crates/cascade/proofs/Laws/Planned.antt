@@ -1,10 +1,12 @@
 -- Plan's planned cells and its arrays, and from its promise to the cells.
-use Rattle.std.specs.Prelude.{ℕ, zero, suc, ◌+◌, ◌-◌, ◌≤◌, ◌<◌, ◌≡◌, List, [], ◌∷◌, ◌++◌, map, get_or, take, drop, replicate, ℤ}
+use Rattle.std.specs.Prelude.{ℕ, zero, suc, ◌+◌, ◌-◌, ◌≤◌, ◌<◌, ◌≡◌, List, [], ◌∷◌, ◌++◌, map, get_or, take, drop, replicate, ℤ, Ok, Err}
 use Rattle.std.proofs.Math.Path.{refl, sym, ap}
 use Rattle.std.proofs.Common.{◌∙◌, ap₂, add-zero, add_assoc, arith, take-append-drop, take-suc}
 use Rattle.std.proofs.Math.ListN.{length}
 use Rattle.std.proofs.lemmas.List.{length-map}
 use Rattle.numbers.specs.Answers.{Answer, accepted, refused, map_answer}
+use Rattle.numbers.specs.Refusals.{number, answer_of}
+use Rattle.numbers.specs.declared.Refusal.{Refusal}
 use Rattle.numbers.specs.Lists.{padded, sum_of}
 use Rattle.numbers.specs.Ranges.{most_variables}
 use Rattle.numbers.proofs.Laws.Padding.{length_padded, take_padded}
@@ -16,8 +18,8 @@ use Rattle.cascade.specs.Groupings.{cost}
 use Rattle.cascade.specs.Plan.{plan, plan_cell, plan_cells, no_cell, entries, size_array, cell_array, Totals, totals, plan_answer, judgement, Plans}
 use Rattle.cascade.specs.Inner.Planned.{groups, PlannedAs, Chosen}
 use Rattle.cascade.specs.declared.Cell.{Cell}
+use Rattle.cascade.specs.declared.Grouping.{Grouping}
 use Rattle.cascade.specs.declared.Planned.{Planned}
-use Rattle.cascade.specs.declared.Verdict.TheVariants.{Grouping, Refused}
 use Rattle.cascade.proofs.Laws.Admitting.{never_both, plan_admits}
 use Rattle.cascade.proofs.Laws.Cells.{variables_most}
 use Rattle.cascade.proofs.Laws.Chosen.{chosen_best}
@@ -94,24 +96,24 @@ arrays_accepted n table sizes = (refl, refl)
 -- ---- from Plan's promise
 
 module _ (n : ℕ) (table : List ℤ) (limit : ℕ) (p : Planned) (plans : Plans n table limit p) where
-  -- Plan's refusal is the number of its verdict.
-  pub plan_refused : (k : ℕ) → p.verdict ≡ Refused k → plan n table limit ≡ refused k
-  unfolding judgement plan_answer
-  plan_refused k e = unmapped (plan n table limit) (sym (sym (ap judgement e) ∙ plans.judged))
+  -- Plan's refusal is the number of its verdict's.
+  pub plan_refused : (r : Refusal) → p.verdict ≡ Err r → plan n table limit ≡ refused (number r)
+  unfolding judgement plan_answer answer_of
+  plan_refused r e = unmapped (plan n table limit) (sym (sym (ap judgement e) ∙ plans.judged))
     where
-      unmapped : (answer : Answer (List ℕ)) → map_answer (totals n table) answer ≡ refused k → answer ≡ refused k
+      unmapped : (answer : Answer (List ℕ)) → map_answer (totals n table) answer ≡ refused (number r) → answer ≡ refused (number r)
       unmapped (accepted sizes) f = cc
       unmapped (refused j) f = cc
 
-  module _ (count bits : ℕ) (grouped : p.verdict ≡ Grouping count bits) where
+  module _ (g : Grouping) (grouped : p.verdict ≡ Ok g) where
     -- A verdict with a grouping: its cells are those of Plan's sizes.
-    pub plan_chosen : Chosen n table limit p.cells count bits
-    unfolding judgement plan_answer totals cell_array entries cost
+    pub plan_chosen : Chosen n table limit p.cells g.cells g.bits
+    unfolding judgement plan_answer totals cell_array entries cost answer_of
     plan_chosen = either (plan n table limit) refl
       where
-        either : (answer : Answer (List ℕ)) → plan n table limit ≡ answer → Chosen n table limit p.cells count bits
+        either : (answer : Answer (List ℕ)) → plan n table limit ≡ answer → Chosen n table limit p.cells g.cells g.bits
         either (accepted sizes) f =
-            let same : accepted (record { cells = count; bits = bits }) ≡ accepted (totals n table sizes) = sym (ap judgement grouped) ∙ plans.judged ∙ ap (map_answer (totals n table)) f in
+            let same : accepted (record { cells = g.cells; bits = g.bits }) ≡ accepted (totals n table sizes) = sym (ap judgement grouped) ∙ plans.judged ∙ ap (map_answer (totals n table)) f in
             record {
               sizes = sizes;
               chosen = f;
@@ -122,10 +124,10 @@ module _ (n : ℕ) (table : List ℤ) (limit : ℕ) (p : Planned) (plans : Plans
                 total = ap (λ (a : Answer Totals). elim a [ accepted t ↦ t.bits | refused k ↦ 0 ]) same;
               };
             }
-        either (refused k) f = absurd (never_both (record { cells = count; bits = bits }) k (sym (sym (ap judgement grouped) ∙ plans.judged ∙ ap (map_answer (totals n table)) f)))
+        either (refused k) f = absurd (never_both (record { cells = g.cells; bits = g.bits }) k (sym (sym (ap judgement grouped) ∙ plans.judged ∙ ap (map_answer (totals n table)) f)))
 
     pub plan_accepts : Accepted n table
     plan_accepts = (plan_admits n table limit plan_chosen.sizes plan_chosen.chosen).0
 
-    pub planned_groups : plan n table limit ≡ accepted (groups p.cells count)
+    pub planned_groups : plan n table limit ≡ accepted (groups p.cells g.cells)
     planned_groups = plan_chosen.chosen ∙ ap accepted (sym (groups_are plan_accepts plan_chosen.planned))

@@ -42,6 +42,16 @@ module _ (cells : List Cell) (blank : List ℕ) (places : length blank ≡ 7 * l
         let more = ap (λ m. flat_map cell_row (take m cells)) (add-one k) ∙ ap (flat_map cell_row) (take-suc cells k no_cell l) ∙ flat_map_append cell_row (take k cells) (cell ∷ []) in
         record { inside = omega arith; written = written_behind blank 0 done s.written (7 * k) (cell_row cell) all (omega arith) (omega arith) ∙ ap (overwritten blank 0) (sym more) }
 
+    -- The numbers of one more, written at once.
+    pub row_written : {row' : List ℕ} → k < length cells → row' ≡ overwritten row (7 * k) (cell_row (get_or cells k no_cell)) → RowsTo cells blank (k + 1) row'
+    unfolding cell_row flat_map
+    row_written l e =
+        let cell = get_or cells k no_cell in
+        let done = flat_map cell_row (take k cells) in
+        let long = rows_length (take k cells) ∙ ap (λ m. 7 * m) (length-take-le k cells s.inside) in
+        let more = ap (λ m. flat_map cell_row (take m cells)) (add-one k) ∙ ap (flat_map cell_row) (take-suc cells k no_cell l) ∙ flat_map_append cell_row (take k cells) (cell ∷ []) in
+        record { inside = omega arith; written = written_behind blank 0 done s.written (7 * k) (cell_row cell) e (omega arith) (omega arith) ∙ ap (overwritten blank 0) (sym more) }
+
     -- All of them.
     pub all_rows : length cells ≤ k → row ≡ flat_map cell_row cells
     all_rows l =

@@ -1,12 +1,13 @@
 -- Cases of Plan and Compile, by what they answered and left.
-use Rattle.std.specs.Prelude.{◌≡◌, ℕ, ◌<◌, ◌≤◌, Bool, false, ◌&&◌, List, map, length, replicate, ℤ, pos}
+use Rattle.std.specs.Prelude.{◌≡◌, ℕ, ◌<◌, ◌≤◌, Bool, false, ◌&&◌, List, map, length, replicate, ℤ, pos, Result}
 use Rattle.std.proofs.Common.{sym, ◌∙◌, subst, le-leb}
 use Rattle.std.proofs.Math.Path.{ap, ap₂}
 use mathlib.Core.List.{flat_map}
 use Rattle.std.proofs.lemmas.List.{length-replicate}
 use Rattle.std.proofs.lemmas.Bool.{lt-leb}
 use Rattle.cascade.specs.Plan.{plan, plan_answer, size_array, cell_array, judgement, Plans}
-use Rattle.cascade.specs.Compile.{compile_answer, compile_cells, compile_buffer, outcome, Compiles}
+use Rattle.cascade.specs.Compile.{compile_answer, compile_cells, compile_buffer, outcome, compiled_cells, Compiles}
+use Rattle.numbers.specs.declared.Refusal.{Refusal}
 use Rattle.cascade.specs.declared.Planned.{Planned}
 use Rattle.cascade.specs.declared.Compiled.{Compiled}
 use Rattle.cascade.specs.Rows.{cell_row}
@@ -30,10 +31,10 @@ module _ (numbers table : List ℤ) {n limit : ℕ} (variables : n ≡ size_at n
     compile_too_many l = failed _ (lt-leb (size_at numbers 3) 512 (subst (λ k. 512 < k) room l))
 
     -- The answer and the lent image decide.
-    pub compile_judged : (lent : List ℕ) (compiled : Compiled) (left : List ℕ) → places ≤ 512 → lent ≡ replicate places byte_lent → Compiles n table limit lent compiled left
-        → compile_passes numbers table cells front ≡ (outcome_is numbers (outcome compiled.outcome) && (sizes_are (flat_map cell_row compiled.cells) cells && front_holds (pos byte_lent) (map pos left) front))
+    pub compile_judged : (lent : List ℕ) (answer : Result Compiled Refusal) (left : List ℕ) → places ≤ 512 → lent ≡ replicate places byte_lent → Compiles n table limit lent answer left
+        → compile_passes numbers table cells front ≡ (outcome_is numbers (outcome answer) && (sizes_are (flat_map cell_row (compiled_cells answer)) cells && front_holds (pos byte_lent) (map pos left) front))
     unfolding compile_passes
-    compile_judged lent compiled left l e compiles =
+    compile_judged lent answer left l e compiles =
         passed _ (le-leb (size_at numbers 3) 512 (subst (λ k. k ≤ 512) room l))
         ∙ ap₂ (λ m k. judging m k (size_at numbers 3)) (sym variables) (sym limited)
         ∙ ap (judging n limit) (sym room)

@@ -1,10 +1,11 @@
 -- Cases of Build, by what it answered and left.
-use Rattle.std.specs.Prelude.{◌≡◌, ℕ, ◌<◌, ◌≤◌, false, ◌&&◌, List, length, replicate, ℤ}
+use Rattle.std.specs.Prelude.{◌≡◌, ℕ, ◌<◌, ◌≤◌, false, ◌&&◌, List, length, replicate, ℤ, Result}
 use Rattle.std.proofs.Common.{sym, ◌∙◌, subst, le-leb}
 use Rattle.std.proofs.Math.Path.{ap, ap₂}
 use Rattle.std.proofs.Math.ListN.{length-replicate}
 use Rattle.std.proofs.lemmas.Bool.{lt-leb}
 use Rattle.diagram.specs.Build.{build_answer, build_buffer, built, Builds}
+use Rattle.numbers.specs.declared.Refusal.{Refusal}
 use Rattle.diagram.specs.declared.Built.{Built}
 use Rattle.cases.specs.Rows.{size_at, number_lent, front_holds}
 use Rattle.cases.proofs.Laws.Tests.{passed, failed}
@@ -17,7 +18,7 @@ module _ (numbers table front : List ℤ) {n places : ℕ} (variables : n ≡ si
   build_too_many l = failed _ (lt-leb (size_at numbers 2) 24570 (subst (λ k. 24570 < k) room l))
 
   -- The answer and the lent row decide.
-  pub build_judged : (lent : List ℤ) (answer : Built) (left : List ℤ) → places ≤ 24570 → lent ≡ replicate places number_lent → Builds n table lent answer left → build_passes numbers table front ≡ (built_is numbers (built answer) && front_holds number_lent left front)
+  pub build_judged : (lent : List ℤ) (answer : Result Built Refusal) (left : List ℤ) → places ≤ 24570 → lent ≡ replicate places number_lent → Builds n table lent answer left → build_passes numbers table front ≡ (built_is numbers (built answer) && front_holds number_lent left front)
   unfolding build_passes
   build_judged lent answer left l e builds =
       passed _ (le-leb (size_at numbers 2) 24570 (subst (λ k. k ≤ 24570) room l))

@@ -1,35 +1,16 @@
 -- Cases of Sum and Remainder, by what they answered and left.
-use Rattle.std.specs.Prelude.{◌≡◌, ℕ, ◌<◌, ◌≤◌, true, false, List, length, replicate, ℤ, ◌==◌, ◌≢◌, refl}
+use Rattle.std.specs.Prelude.{◌≡◌, ℕ, ◌<◌, ◌≤◌, false, List, length, replicate, ℤ, Result, refl}
 use Rattle.std.proofs.Math.Path.{sym, ap, ap₂}
 use Rattle.std.proofs.Common.{◌∙◌, subst}
 use Rattle.std.proofs.Math.ListN.{length-replicate}
-use borrow.Author.Tests.{le-leb, lt-leb, eq-eqb, ne_eqb}
+use borrow.Author.Tests.{le-leb, lt-leb}
 use Rattle.numbers.specs.Answers.{Answer, accepted, refused, map_answer, buffer_after}
-use Rattle.numbers.proofs.Laws.Bools.{yes_or_no}
-use Rattle.sums.specs.Sums.{summed, Fills}
-use Rattle.sums.specs.declared.Summed.{Summed}
-use Rattle.cases.specs.Rows.{size_at, number_lent, answer_is, front_holds}
+use Rattle.numbers.specs.Refusals.{answer_of}
+use Rattle.numbers.specs.declared.Refusal.{Refusal}
+use Rattle.sums.specs.Sums.{Fills}
+use Rattle.cases.specs.Rows.{size_at, number_lent, answer_is}
 use Rattle.cases.proofs.Laws.Tests.{passed, failed}
 use Rattle.cases.specs.SumCases.{filled_is, table_passes}
-
--- A table passes where no refusal is expected, a refusal where it is.
-pub table_told : {A : Type 0} (refusal : ℕ) (a : A) → answer_is refusal (λ b. true) (accepted a) ≡ (refusal == 0)
-unfolding answer_is
-table_told refusal a = yes_or_no (refusal == 0) (λ e. rw e) (λ e. rw e)
-
-pub refusal_told : (A : Type 0) (refusal k : ℕ) → answer_is {A = A} refusal (λ b. true) (refused k) ≡ (refusal == k)
-unfolding answer_is
-refusal_told A refusal k = refl
-
--- The number that is told decides, then the table.
-module _ (numbers table front : List ℤ) {A : Type 0} (answer : Answer A) {refusal told : ℕ} (expected : refusal ≡ size_at numbers 3) (is : answer_is refusal (λ b. true) answer ≡ (refusal == told)) where
-  pub other_told : (refusal ≢ told) → filled_is numbers answer table front ≡ false
-  unfolding filled_is
-  other_told h = failed _ (ap (λ k. answer_is k (λ b. true) answer) (sym expected) ∙ is ∙ ne_eqb refusal told h)
-
-  pub same_told : refusal ≡ told → filled_is numbers answer table front ≡ front_holds number_lent table front
-  unfolding filled_is
-  same_told h = passed _ (ap (λ k. answer_is k (λ b. true) answer) (sym expected) ∙ is ∙ eq-eqb refusal told h)
 
 -- Of the answer only a refusal is told.
 filled_mapped : {A B : Type 0} (f : A → B) (numbers table front : List ℤ) (answer : Answer A) → filled_is numbers (map_answer f answer) table front ≡ filled_is numbers answer table front
@@ -44,7 +25,7 @@ module _ (numbers front : List ℤ) {places : ℕ} (room : places ≡ size_at nu
   too_many operation l = failed _ (lt-leb (size_at numbers 2) 4096 (subst (λ k. 4096 < k) room l))
 
   -- The answer and the lent table decide.
-  pub judged : (operation : ℕ → Answer (List ℤ)) (lent : List ℤ) (answer : Summed) (left : List ℤ) → places ≤ 4096 → lent ≡ replicate places number_lent → Fills (operation (length lent)) lent answer left → table_passes numbers operation front ≡ filled_is numbers (summed answer) left front
+  pub judged : (operation : ℕ → Answer (List ℤ)) (lent : List ℤ) (answer : Result Unit Refusal) (left : List ℤ) → places ≤ 4096 → lent ≡ replicate places number_lent → Fills (operation (length lent)) lent answer left → table_passes numbers operation front ≡ filled_is numbers (answer_of answer) left front
   unfolding table_passes
   judged operation lent answer left l e fills =
       let size : length lent ≡ size_at numbers 2 = ap length e ∙ length-replicate places number_lent ∙ room in

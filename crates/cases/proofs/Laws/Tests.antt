@@ -1,6 +1,6 @@
 -- Tests one after the other, each on what a function answered, and the front of what is lent.
-use Rattle.std.specs.Prelude.{◌≡◌, ℕ, zero, suc, ◌≤◌, Bool, true, false, ◌&&◌, List, ◌∷◌, ◌++◌, length, take, replicate, ◌==◌, ◌≢◌, refl}
-use Rattle.std.proofs.Common.{sym, ◌∙◌, ap, arith, length-append, take_at, eq-eqb, ne_eqb}
+use Rattle.std.specs.Prelude.{◌≡◌, ℕ, zero, suc, ◌≤◌, Bool, true, false, ◌&&◌, List, ◌∷◌, ◌++◌, length, take, replicate, refl}
+use Rattle.std.proofs.Common.{sym, ◌∙◌, ap, arith, length-append, take_at}
 
 -- Where a test passes, the others decide; where it fails, all fail.
 pub passed : {test : Bool} (others : Bool) → test ≡ true → (test && others) ≡ others
@@ -8,14 +8,6 @@ passed others e = ap (λ b. b && others) e
 
 pub failed : {test : Bool} (others : Bool) → test ≡ false → (test && others) ≡ false
 failed others e = ap (λ b. b && others) e
-
--- A size that was worked out is the other one, or not.
-module _ {size worked : ℕ} (other : ℕ) (e : worked ≡ size) where
-  pub is_size : worked ≡ other → (size == other) ≡ true
-  is_size h = eq-eqb size other (sym e ∙ h)
-
-  pub not_size : (worked ≢ other) → (size == other) ≡ false
-  not_size h = ne_eqb size other (λ k. h (e ∙ k))
 
 -- The front of a lent row that holds one number everywhere.
 pub lent_front : {A : Type 0} (a : A) (k n : ℕ) → k ≤ n → take k (replicate n a) ≡ replicate k a

@@ -1,9 +1,13 @@
 -- A line's end, byte by byte, and the numbers of a line.
-use Rattle.std.specs.Prelude.{◌≡◌, ℕ, zero, suc, ◌+◌, ◌-◌, ◌<◌, ◌≤◌, true, false, List, [], ◌∷◌, ◌++◌, length, take, drop, ℤ, slice_index, refl}
+use Rattle.std.specs.Prelude.{◌≡◌, ℕ, zero, suc, ◌+◌, ◌-◌, ◌<◌, ◌≤◌, true, false, List, [], ◌∷◌, ◌++◌, length, take, drop, ℤ, Option, Some, None, Result, Ok, Err, refl}
 use Rattle.std.proofs.Math.Path.{sym, ap}
-use Rattle.std.proofs.Common.{◌∙◌, length-drop, drop_of_length-le}
+use Rattle.std.proofs.Common.{◌∙◌, length-drop}
 use mathlib.Core.List.{append-nil}
 use native.Mathlib.Omega.{arith}
+use Rattle.std.specs.List.{AllWithin, HoldsAt}
+use Rattle.std.specs.Option.{MatchOption}
+use Rattle.decimal.specs.declared.Item.{Item}
+use Rattle.decimal.specs.declared.NoNumber.{NoNumber}
 use Rattle.numbers.specs.Lists.{overwritten}
 use Rattle.numbers.proofs.Laws.Bools.{yes_or_no}
 use Rattle.decimal.specs.Words.{is_newline, Word, words}
@@ -11,8 +15,8 @@ use Rattle.decimal.specs.Table.{is_value_word, values_found}
 use Rattle.decimal.specs.declared.Position.{Position}
 use Rattle.decimal.specs.Inner.Positions.{words_at}
 use Rattle.decimal.proofs.Laws.Buffers.{front_taken}
-use Rattle.decimal.proofs.Laws.Items.{SeenOther, some_word, no_word}
-use Rattle.decimal.proofs.Laws.Positions.{byte_there, start_words}
+use Rattle.decimal.proofs.Laws.Items.{Seen, SeenOther, some_word, no_word}
+use Rattle.decimal.proofs.Laws.Positions.{start_words}
 use Rattle.decimal.proofs.Laws.Values.{ValuesSoFar}
 use Rattle.cases.specs.Text.{line_length, line_numbers, ReadsRow}
 
@@ -40,28 +44,27 @@ line_some (byte ∷ rest) h =
     (λ e. let l = line_ends byte rest e in omega arith)
     (λ e. let l = line_goes_on byte rest e in omega arith)
 
--- No newline stands from the start up to a place.
-pub record LinePassed (text : List ℕ) (start at : ℕ) : Type 0 where
-  pub inside : at ≤ length text
-  pub same : start + line_length (drop start text) ≡ at + line_length (drop at text)
+-- Without a newline the line is the text.
+pub no_newline : (text : List ℕ) → AllWithin (λ byte. is_newline byte ≡ false) text 0 (length text) → line_length text ≡ length text
+unfolding line_length
+no_newline [] all = refl
+no_newline (byte ∷ rest) all = line_goes_on byte rest (all 0 byte (omega arith) (omega arith)) ∙ ap suc (no_newline rest (λ k d from to. all (suc k) d (omega arith) (omega arith)))
 
-module _ {text : List ℕ} {start at : ℕ} (p : LinePassed text start at) where
-  module _ (l : at < length text) where
-    -- The line ends here.
-    pub newline_here : is_newline (slice_index text at) ≡ true → at + 1 ≡ start + line_length (drop start text)
-    newline_here e = let here = ap line_length (byte_there text at l) ∙ line_ends (slice_index text at) (drop (at + 1) text) e in let s = p.same in omega arith
+-- The first newline ends it.
+pub first_newline : (text : List ℕ) (i : ℕ) → i < length text → HoldsAt (λ byte. is_newline byte ≡ true) text i → AllWithin (λ byte. is_newline byte ≡ false) text 0 i → line_length text ≡ i + 1
+first_newline [] i l here before = absurd (omega arith)
+first_newline (byte ∷ rest) zero l here before = line_ends byte rest (here byte)
+first_newline (byte ∷ rest) (suc i) l here before =
+    line_goes_on byte rest (before 0 byte (omega arith) (omega arith))
+    ∙ ap suc (first_newline rest i (omega arith) here (λ k d from to. before (suc k) d (omega arith) (omega arith)))
+    ∙ (let e : suc (i + 1) ≡ suc i + 1 = omega arith in e)
 
-    -- It goes on.
-    pub line_on : is_newline (slice_index text at) ≡ false → LinePassed text start (at + 1)
-    line_on e =
-        let here = ap line_length (byte_there text at l) ∙ line_goes_on (slice_index text at) (drop (at + 1) text) e in
-        let s = p.same in
-        record { inside = omega arith; same = omega arith }
-
-  -- The text ends.
-  pub line_over : length text ≤ at → at ≡ start + line_length (drop start text)
-  unfolding line_length
-  line_over l = let none = ap line_length (drop_of_length-le text l) in let s = p.same in omega arith
+-- The line's length by where the first newline was found.
+pub line_found : (text : List ℕ) (newline : Option ℕ) {behind : ℕ}
+    → MatchOption newline (AllWithin (λ byte. is_newline byte ≡ false) text 0 (length text)) (λ i. (i < length text) × HoldsAt (λ byte. is_newline byte ≡ true) text i × AllWithin (λ byte. is_newline byte ≡ false) text 0 i)
+    → MatchOption newline (behind ≡ length text) (λ i. behind ≡ i + 1) → behind ≡ line_length text
+line_found text None first e = e ∙ sym (no_newline text first)
+line_found text (Some i) first e = e ∙ sym (first_newline text i first.0 first.1 first.2)
 
 -- ---- the numbers of a line
 
@@ -92,6 +95,10 @@ module _ {line : List ℕ} {row : List ℤ} {place : Position} {count : ℕ} {ro
   pub nothing_next : {number : ℕ} → SeenOther line place number → ReadsRow line row count row'
   nothing_next {number} (some_word s) = all_read (ap (values_found (length row - count)) s.first ∙ none_of_other (length row - count) (record { line = number; bytes = s.word }) s.more s.value)
   nothing_next (no_word s) = all_read (ap (values_found (length row - count)) s.none ∙ none_of_none (length row - count))
+
+  pub nothing_here : (item : Result Item NoNumber) → ((x : Item) → item ≡ Ok x → ⊥) → Seen line place item → ReadsRow line row count row'
+  nothing_here (Ok item) none s = absurd (none item refl)
+  nothing_here (Err none) not s = nothing_next s
 
 -- The numbers that were read, taken out of the row again.
 few_found : (count : ℕ) (words : List Word) → length (values_found count words) ≤ count

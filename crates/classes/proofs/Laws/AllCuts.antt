@@ -103,3 +103,10 @@ cuts_done n table class_row first_row count_row tried_row uses_row use_count_row
     use_counted = all_noted use_count_row _ _ s.searches.use_count_places s.use_counted;
   },
 )
+
+-- The same, where the loop has come behind the last cut.
+pub cuts_end : {n h : ℕ} {table : List ℤ} {class_row first_row count_row tried_row uses_row use_count_row : List ℕ} → h ≡ suc n → CutsSoFar n table h class_row first_row count_row tried_row uses_row use_count_row
+    → record { all_classed : AllClassed n table class_row first_row count_row; all_searched : AllSearched n table tried_row uses_row use_count_row }
+cuts_end {n} {h} {table} {class_row} {first_row} {count_row} {tried_row} {uses_row} {use_count_row} e s =
+    let done = cuts_done n table class_row first_row count_row tried_row uses_row use_count_row (subst (λ k. CutsSoFar n table k class_row first_row count_row tried_row uses_row use_count_row) e s) in
+    record { all_classed = done.0; all_searched = done.1 }

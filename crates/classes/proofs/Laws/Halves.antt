@@ -27,14 +27,25 @@ module _ (table : List ℤ) (size b : ℕ) (room : b * (2 * size) + 2 * size ≤
   doubled = sym (mul_assoc b 2 size) ∙ ap (λ n. n * size) (let e : b * 2 ≡ 2 * b = omega arith in e)
 
   -- The lower half is all up to the middle,
-  pub lower_part : take (length (above table size b) / 2) (above table size b) ≡ part table size (2 * b)
+  pub lower_half : take size (above table size b) ≡ part table size (2 * b)
   unfolding part
-  lower_part =
-      ap (λ n. take n (above table size b)) middle
-      ∙ take-take size (b * (2 * size) + 2 * size - b * (2 * size)) (drop (b * (2 * size)) table) (omega arith)
+  lower_half =
+      take-take size (b * (2 * size) + 2 * size - b * (2 * size)) (drop (b * (2 * size)) table) (omega arith)
       ∙ ap (λ n. take size (drop n table)) doubled
 
-  -- and the upper half as much from the middle on.
+  -- and the upper half all from the middle on.
+  pub upper_half : drop size (above table size b) ≡ part table size (2 * b + 1)
+  unfolding part
+  upper_half =
+      drop_take size (b * (2 * size) + 2 * size - b * (2 * size)) (drop (b * (2 * size)) table)
+      ∙ ap (λ n. take n (drop size (drop (b * (2 * size)) table))) (let e : b * (2 * size) + 2 * size - b * (2 * size) - size ≡ size = omega arith in e)
+      ∙ ap (take size) (drop-drop size (b * (2 * size)) table)
+      ∙ ap (λ n. take size (drop n table)) (let d = doubled in let e : b * (2 * size) + size ≡ (2 * b + 1) * size = omega (arith, suc-mul (2 * b) size) in e)
+
+  -- The same, the middle given by the block's length.
+  pub lower_part : take (length (above table size b) / 2) (above table size b) ≡ part table size (2 * b)
+  lower_part = ap (λ n. take n (above table size b)) middle ∙ lower_half
+
   pub upper_part : take (length (above table size b) / 2) (drop (length (above table size b) / 2) (above table size b)) ≡ part table size (2 * b + 1)
   unfolding part
   upper_part =
@@ -59,6 +70,20 @@ module _ {table : List ℤ} {size count j : ℕ} (cut : Cut table size count) (b
 
   abbrev whole : List ℤ
   whole = above table size (j / 2)
+
+  -- and the block is that one's lower half or its upper half.
+  abbrev Half : List ℤ → Type 0
+  Half values = ((j % 2 ≡ 0) × (values ≡ take size whole)) ⊎ ((j % 2 ≡ 0 → ⊥) × (values ≡ drop size whole))
+
+  pub half_block : {values : List ℤ} → Half values → values ≡ part table size j
+  half_block (inl lower) =
+      lower.1
+      ∙ lower_half table size (j / 2) above_inside
+      ∙ ap (part table size) (let z = lower.0 in let e : 2 * (j / 2) ≡ j = omega arith in e)
+  half_block (inr upper) =
+      upper.1
+      ∙ upper_half table size (j / 2) above_inside
+      ∙ ap (part table size) (let z = upper.0 in let e : 2 * (j / 2) + 1 ≡ j = omega arith in e)
 
   -- and the block is what begins at its start, or in its middle, and is half as long.
   abbrev Begins : ℕ → Type 0

@@ -19,7 +19,10 @@ use Rattle.blocks.proofs.Laws.Same.{same_true, equal_same}
 use Rattle.blocks.specs.Tries.{number_tried}
 use Rattle.blocks.proofs.SearchTheorems.{tried_latest, tried_before_latest, tried_behind_latest}
 use Rattle.blocks.proofs.Laws.Order.{tried_none, tried_new}
-use Rattle.classes.specs.Inner.Searching.{part_differences, first_between, KnownClasses, looked_up}
+use Rattle.classes.specs.Inner.Searching.{part_differences, first_between, KnownClasses, found_between, looked_up}
+use Rattle.std.proofs.lemmas.Option.{cond_some, none-some}
+use Rattle.std.proofs.Common.{Some, None, Bool, ltb, cond, ltb-true, ltb-false, lt-ltb, le-ltb}
+use Rattle.numbers.proofs.Laws.Bools.{yes_or_no}
 
 -- ---- the differences of a list of parts, and of one of them
 
@@ -89,6 +92,45 @@ module _ (known : List (List ℤ)) (d : List ℤ) where
     between_by k l m e =
         let n = number_by looked d (k - from) (looked_at (k - from) (omega arith) ∙ ap (λ j. get_or known j []) (let q : from + (k - from) ≡ k = omega arith in q) ∙ e) in
         omega arith
+
+  -- What is found, and that nothing is.
+  module _ (from to : ℕ) where
+    pub found_some : (class : ℕ) → found_between known from to d ≡ Some class → (class ≡ first_between known from to d) × (class < to)
+    unfolding found_between
+    found_some class e =
+        let f = cond_some (ltb (first_between known from to d) to) (first_between known from to d) class e in
+        (sym f.1, rw (← f.1) (ltb-true (first_between known from to d) to f.0))
+
+    pub found_none : found_between known from to d ≡ None → to ≤ first_between known from to d
+    unfolding found_between
+    found_none e =
+        yes_or_no (ltb (first_between known from to d) to)
+        (λ l. absurd (none-some (first_between known from to d) (sym e ∙ ap (λ b. cond b (Some (first_between known from to d)) None) l)))
+        (λ l. ltb-false (first_between known from to d) to l)
+
+-- The search among first blocks, in turns: no class is left, the next one's first block is equal, or that class is passed over.
+module _ (table : List ℤ) (size : ℕ) (firsts : List ℕ) (d : List ℤ) where
+  abbrev parts : List (List ℤ)
+  parts = part_differences table size firsts
+
+  pub found_nothing : (to : ℕ) → found_between parts to to d ≡ None
+  unfolding found_between
+  found_nothing to = rw (between_none parts d to, le-ltb to to (omega arith))
+
+  module _ (class to : ℕ) (below : class < to) (inside : to ≤ length firsts) where
+    reach : to ≤ length parts
+    reach = rw length_parts inside
+
+    at : {b : Bool} → same (differences (part table size (get_or firsts class 0))) d ≡ b → same (get_or parts class []) d ≡ b
+    at e = ap (λ l. same l d) (part_at table size firsts class (omega arith)) ∙ e
+
+    pub found_here : same (differences (part table size (get_or firsts class 0))) d ≡ true → found_between parts class to d ≡ Some class
+    unfolding found_between
+    found_here e = rw (between_here parts d class to below reach (at e), lt-ltb class to below)
+
+    pub found_later : same (differences (part table size (get_or firsts class 0))) d ≡ false → found_between parts class to d ≡ found_between parts (class + 1) to d
+    unfolding found_between
+    found_later e = rw (between_later parts d class to below reach (at e))
 
 -- ---- the latest class, those before it, those behind it
 
@@ -173,3 +215,16 @@ module _ {table : List ℤ} {size : ℕ} {firsts : List ℕ} {latest : ℕ} (k :
             known_or_new : Dec (number < length firsts) → number ≡ length firsts
             known_or_new (yes l) = absurd (unknown l)
             known_or_new (no l) = let m : number ≤ length firsts = rw length_parts at (number_le known d) in omega arith
+
+    -- The same, by what is found.
+    pub some_before : (class : ℕ) → found_between known 0 latest d ≡ Some class → record { class = class; tried = class + 2 } ≡ looked_up known latest d
+    some_before class e = let f = found_some known d 0 latest class e in before_found class f.0 f.1
+
+    pub some_behind : (class : ℕ) → found_between known (latest + 1) (length firsts) d ≡ Some class → record { class = class; tried = class + 1 } ≡ looked_up known latest d
+    some_behind class e = let f = found_some known d (latest + 1) (length firsts) class e in behind_found class f.0 f.1
+
+    pub none_known : same (differences (part table size (get_or firsts latest 0))) d ≡ false → found_between known 0 latest d ≡ None → found_between known (latest + 1) (length firsts) d ≡ None → record { class = length firsts; tried = length firsts } ≡ looked_up known latest d
+    none_known other before behind =
+        let most = between_most known d (latest + 1) (length firsts) (let m = latest_known in omega arith) (rw length_parts (omega arith)) in
+        let least = found_none known d (latest + 1) (length firsts) behind in
+        none_found other (found_none known d 0 latest before) (length firsts) (omega arith) (omega arith)

@@ -1,5 +1,5 @@
 -- What the search for a block's class is lent, and what it answers.
-use Rattle.std.specs.Prelude.{ℕ, ◌+◌, ◌-◌, ◌*◌, ◌^◌, ◌≤◌, ◌<◌, ◌≡◌, List, [], map, length, get_or, take, drop, ℤ}
+use Rattle.std.specs.Prelude.{ℕ, Option, Some, None, cond, ltb, ◌+◌, ◌-◌, ◌*◌, ◌^◌, ◌≤◌, ◌<◌, ◌≡◌, List, [], map, length, get_or, take, drop, ℤ}
 use Rattle.blocks.specs.Blocks.{differences}
 use Rattle.blocks.specs.Classes.{number_in}
 use Rattle.blocks.specs.Inner.Layout.{part}
@@ -18,6 +18,10 @@ pub record PartsWithin (table : List ℤ) (size : ℕ) (parts : List ℕ) : Type
 -- The first of the known lists from one number on and before another that is equal; that other number where none is.
 unfoldable pub first_between : List (List ℤ) → ℕ → ℕ → List ℤ → ℕ
 first_between known from to d = from + number_in (take (to - from) (drop from known)) d
+
+-- It as what is found: nothing where none is.
+unfoldable pub found_between : List (List ℤ) → ℕ → ℕ → List ℤ → Option ℕ
+found_between known from to d = cond (ltb (first_between known from to d) to) (Some (first_between known from to d)) None
 
 -- Known classes, each given by its first block: each has its own number, so that no two have the same differences, and the latest
 -- class is one of them where any is known.

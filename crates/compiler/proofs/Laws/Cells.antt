@@ -1,11 +1,9 @@
 -- Planned cells, written one behind the other.
 use Rattle.std.specs.Prelude.{ℕ, suc, ◌+◌, ◌*◌, ◌^◌, ◌≤◌, ◌<◌, ◌≡◌, refl, take, drop, ℤ}
-use Rattle.std.proofs.Math.Path.{sym, ap, ap₂}
-use Rattle.std.proofs.Common.{◌∙◌, zero-add, add-zero, add-one, take-append-drop, take-suc, get_or-take}
-use mathlib.Core.List.{List, [], ◌∷◌, ◌++◌, flat_map, append-nil}
-use native.Mathlib.Omega.{arith}
-use Rattle.std.proofs.Math.ListN.{length, get_or, length-append, length-map}
-use Rattle.std.proofs.Math.Seq.{take-length, length-take-le}
+use Rattle.std.proofs.Common.{◌∙◌, zero-add, add-zero, add-one, take-append-drop, take-suc, sym, ap, ap₂, List, [], ◌∷◌, ◌++◌, append-nil, arith, length, get_or, length-append}
+use mathlib.Core.List.{flat_map}
+use Rattle.std.proofs.Math.ListN.{length-map}
+use Rattle.std.proofs.Math.Seq.{take-length}
 use Rattle.numbers.specs.Lists.{sum_of, overwritten}
 use Rattle.numbers.proofs.Laws.Lists.{get_d_map}
 use Rattle.numbers.proofs.Laws.Rows.{overwritten_none}
@@ -23,9 +21,8 @@ use Rattle.cascade.proofs.Laws.Lengths.{cell_length}
 use Rattle.cascade.proofs.Laws.Planned.{sum_next, sum_within, planned_at}
 use Rattle.cascade.specs.Plan.{plan_cell}
 use Rattle.cascade.specs.declared.Cell.{Cell as PlanCell}
-use Rattle.cascade.specs.Inner.Planned.{groups}
 use Rattle.compiler.specs.Inner.WordWriting.{word_bytes, CellPlanned}
-use Rattle.compiler.specs.Inner.Writing.{cell_bytes, cells_bytes, CellsPlanned}
+use Rattle.compiler.specs.Inner.Writing.{cell_bytes, cells_bytes, cell_groups, CellsPlanned}
 use Rattle.numbers.proofs.Laws.Written.{written_behind, length_kept}
 use Rattle.compiler.proofs.Laws.Words.{words_are}
 
@@ -104,35 +101,35 @@ module _ (n : ℕ) (table : List ℤ) where
 
 -- ---- the planned cells
 
-module _ {n : ℕ} {table : List ℤ} {cells : List PlanCell} {count bits : ℕ} (p : CellsPlanned n table cells count bits) where
-  open p use {few, grouping, planned}
+module _ {n : ℕ} {table : List ℤ} {cells : List PlanCell} {bits : ℕ} (p : CellsPlanned n table cells bits) where
+  open p use {grouping, planned}
 
   -- As many sizes as planned cells.
-  pub groups_count : length (groups cells count) ≡ count
-  unfolding groups
-  groups_count = length-map (take count cells) (λ cell. cell.group) ∙ length-take-le count cells few
+  pub groups_count : length (cell_groups cells) ≡ length cells
+  unfolding cell_groups
+  groups_count = length-map cells (λ cell. cell.group)
 
   -- They are at most 12.
-  pub count_most : Accepted n table → count ≤ 12
-  count_most a = let l = grouping_length n (groups cells count) grouping in let m = variables_most n table a in let e = groups_count in omega arith
+  pub count_most : Accepted n table → length cells ≤ 12
+  count_most a = let l = grouping_length n (cell_groups cells) grouping in let m = variables_most n table a in let e = groups_count in omega arith
 
-  module _ (k : ℕ) (below : k < count) (d : PlanCell) where
-    pub inside : k < length (groups cells count)
+  module _ (k : ℕ) (below : k < length cells) (d : PlanCell) where
+    pub inside : k < length (cell_groups cells)
     inside = rw groups_count below
 
     -- The size of planned cell k.
-    pub size_is : get_or (groups cells count) k 0 ≡ (get_or cells k d).group
-    unfolding groups
-    size_is = get_d_map (λ cell. cell.group) (take count cells) k d 0 (rw (length-take-le count cells few) below) ∙ ap (λ cell. cell.group) (get_or-take count cells k d below)
+    pub size_is : get_or (cell_groups cells) k 0 ≡ (get_or cells k d).group
+    unfolding cell_groups
+    size_is = get_d_map (λ cell. cell.group) cells k d 0 below
 
     -- It is the table's cell from its cut.
-    pub next_planned : (h : ℕ) → h ≡ sum_of (take k (groups cells count)) → CellPlanned n h table (get_or cells k d)
+    pub next_planned : (h : ℕ) → h ≡ sum_of (take k (cell_groups cells)) → CellPlanned n h table (get_or cells k d)
     unfolding plan_cell
     next_planned h e =
-        let at = sym (get_or-take count cells k d below) ∙ ap (λ l. get_or l k d) planned ∙ planned_at n table 0 (groups cells count) k inside d in
-        let same : cell_of n table (0 + sum_of (take k (groups cells count))) (get_or (groups cells count) k 0) ≡ cell_of n table h (get_or cells k d).group = ap₂ (cell_of n table) (zero-add (sum_of (take k (groups cells count))) ∙ sym e) size_is in
+        let at = ap (λ l. get_or l k d) planned ∙ planned_at n table 0 (cell_groups cells) k inside d in
+        let same : cell_of n table (0 + sum_of (take k (cell_groups cells))) (get_or (cell_groups cells) k 0) ≡ cell_of n table h (get_or cells k d).group = ap₂ (cell_of n table) (zero-add (sum_of (take k (cell_groups cells))) ∙ sym e) size_is in
         record {
-          ends = let s = size_is in let w = sum_within (groups cells count) k inside in let g = grouping_sum n (groups cells count) grouping in omega arith;
+          ends = let s = size_is in let w = sum_within (cell_groups cells) k inside in let g = grouping_sum n (cell_groups cells) grouping in omega arith;
           entering = ap (λ cell. cell.incoming) at ∙ ap (λ cell. cell.incoming) same;
           leaving = ap (λ cell. cell.outgoing) at ∙ ap (λ cell. cell.outgoing) same;
           wide = ap (λ cell. cell.width) at ∙ ap (λ cell. cell.width) same;

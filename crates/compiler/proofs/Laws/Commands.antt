@@ -1,10 +1,6 @@
 -- Commands, from the stores of their byte and of their operands.
-use Prim.Native.Nat.{ℕ, ◌+◌, ◌≤◌, ◌<◌}
 use Rattle.std.specs.Prelude.{◌≡◌, length, set, ℤ}
-use Rattle.std.proofs.Common.{sym, ◌∙◌, arith}
-use Rattle.std.proofs.Math.Path.{ap}
-use mathlib.Core.List.{List, [], ◌∷◌, ◌++◌}
-use Rattle.std.proofs.Math.ListN.{length-append}
+use Rattle.std.proofs.Common.{sym, ◌∙◌, arith, ℕ, ◌+◌, ◌≤◌, ◌<◌, ap, List, [], ◌∷◌, ◌++◌, length-append}
 use Rattle.numbers.specs.Lists.{overwritten}
 use Rattle.operands.specs.Bytes.{big_endian, signed_bytes}
 use Rattle.image.specs.Commands.{command_bytes}

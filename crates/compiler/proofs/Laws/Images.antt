@@ -1,8 +1,7 @@
 -- An image, from its table command, its cells and its last command.
 use Rattle.std.specs.Prelude.{ℕ, ◌+◌, ◌≤◌, ◌≡◌, refl, length, ℤ}
-use Rattle.std.proofs.Math.Path.{sym, ap, ap₂}
-use Rattle.std.proofs.Common.{◌∙◌, arith, length-append}
-use mathlib.Core.List.{List, [], ◌∷◌, ◌++◌, flat_map, append_assoc, append-nil}
+use Rattle.std.proofs.Common.{◌∙◌, arith, length-append, sym, ap, ap₂, List, [], ◌∷◌, ◌++◌, append_assoc, append-nil}
+use mathlib.Core.List.{flat_map}
 use Rattle.numbers.specs.Lists.{overwritten}
 use Rattle.numbers.proofs.Laws.Selections.{flat_map_append}
 use Rattle.blocks.specs.Blocks.{first}

@@ -1,7 +1,6 @@
 -- Planned cells are small, can be written, and say how long their image is.
 use Rattle.std.specs.Prelude.{ℕ, zero, suc, ◌+◌, ◌*◌, ◌<◌, ◌≡◌, refl, List, [], ◌∷◌, map, length, get_or, take, ℤ}
-use Rattle.std.proofs.Math.Path.{sym, ap}
-use Rattle.std.proofs.Common.{◌∙◌, ap₂, subst, arith, get_or-take}
+use Rattle.std.proofs.Common.{◌∙◌, ap₂, sym, ap, arith}
 use Rattle.numbers.specs.Lists.{sum_of}
 use Rattle.diagram.specs.Accepted.{Accepted}
 use Rattle.cascade.specs.Cascade.{cell_of, cells_from}
@@ -9,13 +8,14 @@ use Rattle.cascade.specs.Compile.{image_for}
 use Rattle.cascade.specs.Plan.{plan_cell, plan_cells, no_cell}
 use Rattle.cascade.specs.Inner.Planned.{groups, PlannedAs}
 use Rattle.cascade.specs.declared.Cell.{Cell}
-use Rattle.cascade.proofs.Laws.Cards.{grouping_sum}
 use Rattle.cascade.proofs.Laws.Cells.{variables_most, cell_words}
 use Rattle.cascade.proofs.Laws.Lengths.{image_length_lem}
-use Rattle.cascade.proofs.Laws.Planned.{few, places, front}
+use Rattle.cascade.proofs.Laws.Planned.{front}
 use Rattle.planner.proofs.Laws.Pricing.{words_most}
-use Rattle.compiler.specs.Inner.Writing.{CellsPlanned}
+use Rattle.compiler.specs.Inner.Writing.{cell_groups, CellsPlanned}
 use Rattle.compiler.specs.Inner.Lengths.{planned_bytes, planned_length, SmallCell, SmallCells}
+use Rattle.compiler.proofs.Laws.Cells.{count_most, next_planned}
+use Rattle.compiler.proofs.Laws.Words.{small}
 
 -- The bytes of a grouping's cells.
 bytes_of : (n : ℕ) (table : List ℤ) (h : ℕ) (sizes : List ℕ) → sum_of (map planned_bytes (plan_cells n table h sizes)) ≡ sum_of (map (λ cell. 7 + 7 * length cell.words) (cells_from n table h sizes))
@@ -29,7 +29,7 @@ unfolding plan_cells sum_of plan_cell cell_of
 small_from n table a h [] e k l = absurd (omega arith)
 small_from n table a h (g ∷ sizes) e zero l = record {
   group = let m = variables_most n table a in omega arith;
-  words = words_most (record { admitted = a; ends = omega arith; placed = refl });
+  words = words_most a h g (omega arith);
 }
 small_from n table a h (g ∷ sizes) e (suc k) l = small_from n table a (h + g) sizes (omega arith) k (omega arith)
 
@@ -38,18 +38,16 @@ module _ {n : ℕ} {table : List ℤ} {sizes : List ℕ} {cells : List Cell} {co
   unfolding planned_length
   length_is = ap (λ l. 6 + sum_of (map planned_bytes l) + 5) (front a p) ∙ ap (λ b. 6 + b + 5) (bytes_of n table 0 sizes) ∙ sym (image_length_lem n table sizes)
 
-  pub small_cells : SmallCells cells count
-  small_cells = record {
-    places = places a p;
-    few = few a p;
-    each = λ k l. subst (λ (cell : Cell). SmallCell cell) (sym (ap (λ c. get_or c k no_cell) (front a p)) ∙ get_or-take count cells k no_cell l) (small_from n table a 0 sizes (omega (arith, grouping_sum n sizes p.grouping)) k (let c = p.counted in omega arith));
-  }
+-- The same of the cells alone.
+module _ {n : ℕ} {table : List ℤ} {cells : List Cell} {bits : ℕ} (p : CellsPlanned n table cells bits) where
+  pub cells_length : planned_length cells ≡ length (image_for n table (cell_groups cells))
+  unfolding planned_length
+  cells_length = ap (λ l. 6 + sum_of (map planned_bytes l) + 5) p.planned ∙ ap (λ b. 6 + b + 5) (bytes_of n table 0 (cell_groups cells)) ∙ sym (image_length_lem n table (cell_groups cells))
 
--- They can be written.
-pub cells_planned : {n : ℕ} {table : List ℤ} {cells : List Cell} {count bits : ℕ} → Accepted n table → PlannedAs n table (groups cells count) cells count bits → CellsPlanned n table cells count bits
-cells_planned a p = record {
-  few = let s = small_cells a p in let f = s.few in let w = s.places in omega arith;
-  grouping = p.grouping;
-  planned = front a p;
-  total = p.total;
-}
+  pub small_cells : Accepted n table → SmallCells cells
+  small_cells a = record { few = count_most p a; each = λ k l. small (next_planned p k l no_cell _ refl) a }
+
+-- Plan's cells can be written.
+pub cells_planned : {n : ℕ} {table : List ℤ} {cells : List Cell} {count bits : ℕ} → Accepted n table → PlannedAs n table (groups cells count) cells count bits → CellsPlanned n table (take count cells) bits
+unfolding groups cell_groups
+cells_planned a p = record { grouping = p.grouping; planned = front a p; total = p.total }

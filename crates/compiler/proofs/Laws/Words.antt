@@ -1,14 +1,14 @@
 -- The words of a planned cell, written one behind the other.
 use Rattle.std.specs.Prelude.{ℕ, ◌+◌, ◌*◌, ◌%◌, ◌^◌, ◌≤◌, ◌<◌, ◌≡◌, length, get_or, take, ℤ}
-use Rattle.std.proofs.Math.Path.{sym, ap}
-use Rattle.std.proofs.Common.{◌∙◌, add-one, arith, take-suc, length-take-le, pow_mono}
-use mathlib.Core.List.{List, [], ◌∷◌, ◌++◌, map, flat_map, append-nil}
+use Rattle.std.proofs.Common.{◌∙◌, add-one, arith, take-suc, length-take-le, pow_mono, sym, ap, List, [], ◌∷◌, ◌++◌, map, append-nil}
+use mathlib.Core.List.{flat_map}
 use Rattle.std.proofs.Math.Seq.{take-length}
 use Rattle.numbers.specs.Lists.{overwritten}
 use Rattle.numbers.proofs.Laws.Lists.{map_append}
 use Rattle.numbers.proofs.Laws.Pieces.{shifted_one}
 use Rattle.numbers.proofs.Laws.Rows.{overwritten_none}
 use Rattle.numbers.proofs.Laws.Selections.{flat_map_append}
+use Rattle.blocks.specs.Rows.{all_firsts}
 use Rattle.diagram.specs.Accepted.{Accepted}
 use Rattle.image.specs.Cells.{Word}
 use Rattle.image.specs.Commands.{command_bytes, word_command}
@@ -18,7 +18,8 @@ use Rattle.cascade.specs.Inner.Words.{cell_word, WordReady}
 use Rattle.cascade.proofs.Laws.Cells.{variables_most, cell_words, cell_width_most}
 use Rattle.cascade.proofs.Laws.Lengths.{words_length, cell_words_most}
 use Rattle.cascade.specs.declared.Cell.{Cell as PlanCell}
-use Rattle.compiler.specs.Inner.WordWriting.{word_bytes, RowsKnown, CellPlanned}
+use Rattle.compiler.specs.Inner.Lengths.{SmallCell}
+use Rattle.compiler.specs.Inner.WordWriting.{word_bytes, CellPlanned}
 use Rattle.numbers.proofs.Laws.Written.{written_behind, length_kept}
 
 -- ---- a planned cell
@@ -51,10 +52,13 @@ module _ {n h : ℕ} {table : List ℤ} {cell : PlanCell} (p : CellPlanned n h t
     pub count_is : cell.incoming * (1 * 2 ^ cell.group % 18446744073709551616) ≡ cell.incoming * 2 ^ cell.group
     count_is = ap (λ k. cell.incoming * k) (shifted_one cell.group (let m = group_most in omega arith))
 
-  -- Each of its words can be read.
-  pub word_ready : {class_row first_row : List ℕ} → RowsKnown n table class_row first_row → (k : ℕ) → k < cell.incoming * 2 ^ cell.group → WordReady n h cell.group k table first_row
-  unfolding cell_of
-  word_ready r k l = record { admitted = r.admitted; ends = ends; word = rw entering at l; placed = r.placed }
+    pub small : SmallCell cell
+    small = record { group = group_most; words = words_most }
+
+    -- Each of its words can be read.
+    pub word_ready : {first_row : List ℕ} → first_row ≡ all_firsts n table → (k : ℕ) → k < cell.incoming * 2 ^ cell.group → WordReady n h cell.group k table first_row
+    unfolding cell_of
+    word_ready placed k l = record { admitted = a; ends = ends; word = rw entering at l; placed = placed }
 
 -- ---- the words so far
 

@@ -1,5 +1,5 @@
 -- The length of an image, from its planned cells.
-use Rattle.std.specs.Prelude.{ℕ, ◌+◌, ◌*◌, ◌^◌, ◌≤◌, ◌<◌, ◌≡◌, List, map, length, get_or}
+use Rattle.std.specs.Prelude.{ℕ, ◌+◌, ◌*◌, ◌^◌, ◌≤◌, ◌<◌, List, map, length, get_or}
 use Rattle.numbers.specs.Lists.{sum_of}
 use Rattle.cascade.specs.Plan.{no_cell}
 use Rattle.cascade.specs.declared.Cell.{Cell}
@@ -18,8 +18,7 @@ pub record SmallCell (cell : Cell) : Type 0 where
   pub group : cell.group ≤ 12
   pub words : cell.incoming * 2 ^ cell.group ≤ 4096
 
--- The first so many cells are such.
-pub record SmallCells (cells : List Cell) (count : ℕ) : Type 0 where
-  pub places : length cells ≡ 12
-  pub few : count ≤ 12
-  pub each : (k : ℕ) → k < count → SmallCell (get_or cells k no_cell)
+-- A few such cells.
+pub record SmallCells (cells : List Cell) : Type 0 where
+  pub few : length cells ≤ 12
+  pub each : (k : ℕ) → k < length cells → SmallCell (get_or cells k no_cell)

@@ -1,7 +1,8 @@
 -- What comes next in a text, in terms of its words.
-use Rattle.std.specs.Prelude.{ℕ, ◌≤◌, ◌<◌, ◌≡◌, refl, true, false, ◌&&◌, List, [], ◌∷◌, length, take, leb, eqb, ℤ, pos, negsuc}
+use Rattle.std.specs.Prelude.{ℕ, ◌≤◌, ◌<◌, ◌≡◌, refl, true, false, ◌&&◌, List, [], ◌∷◌, length, take, leb, eqb, ℤ, pos, negsuc, Option, Some, None, Result, Ok, Err}
 use Rattle.std.proofs.Common.{sym, ◌∙◌, ap, subst, arith, drop_of_length-le, le-leb, leb-true, leb-false, eqb-true, eq-eqb, ne_eqb}
 use Rattle.std.proofs.lemmas.Bool.{false≢true, eqb-false}
+use Rattle.std.specs.Result.{result_ok}
 use Rattle.std.specs.Int.Signed.{mag}
 use Rattle.numbers.specs.Ranges.{within}
 use Rattle.numbers.proofs.Laws.Bools.{yes_or_no, both, and_both}
@@ -10,9 +11,8 @@ use Rattle.decimal.specs.Numbers.{is_number, number_of, is_number_from}
 use Rattle.decimal.specs.Table.{is_value_word, is_heading}
 use Rattle.decimal.specs.declared.Position.{Position}
 use Rattle.decimal.specs.declared.Item.{Item}
-use Rattle.decimal.specs.declared.Item.TheVariants.{Valued, Other}
+use Rattle.decimal.specs.declared.NoNumber.{NoNumber}
 use Rattle.decimal.specs.declared.Heading.{Heading}
-use Rattle.decimal.specs.declared.Heading.TheVariants.{Found, Missing}
 use Rattle.decimal.specs.Inner.Positions.{words_at, PositionIn, skipped, word_length}
 use Rattle.decimal.specs.Inner.Numbers.{is_whole, word_number}
 use Rattle.decimal.specs.Inner.Items.{word_there, word_behind, word_item, item_there, item_at, heading_of, heading_at}
@@ -22,7 +22,7 @@ use Rattle.decimal.proofs.Laws.Numbers.{one_fails, value_word, other_word, empty
 -- ---- the item at a place
 
 -- At the end of the text there is no number.
-there_ended : (text : List ℕ) (place : Position) → length text ≤ place.at → item_there text place ≡ Other place.line
+there_ended : (text : List ℕ) (place : Position) → length text ≤ place.at → item_there text place ≡ Err (record { line = place.line })
 unfolding item_there word_there word_item word_behind word_length
 there_ended text place l = ap (λ number. word_item number (word_behind text place)) (ap (λ rest. word_number (take (word_length rest) rest)) (drop_of_length-le text l) ∙ empty_word [] refl)
 
@@ -53,9 +53,9 @@ pub data SeenOther (text : List ℕ) (place : Position) (line : ℕ) : Type 0 wh
   no_word : SeenEnd text place line → SeenOther text place line
 
 -- What an item says of the words from a place on.
-abbrev pub Seen : List ℕ → Position → Item → Type 0
-Seen text place (Valued number line at) = SeenValue text place number (record { at = at; line = line })
-Seen text place (Other line) = SeenOther text place line
+abbrev pub Seen : List ℕ → Position → Result Item NoNumber → Type 0
+Seen text place (Ok item) = SeenValue text place item.number (record { at = item.at; line = item.line })
+Seen text place (Err none) = SeenOther text place none.line
 
 pub item_seen : {text : List ℕ} {place : Position} → PositionIn text place → Seen text place (item_at text place)
 unfolding item_at item_there word_item word_behind
@@ -90,17 +90,27 @@ item_seen {text} {place} p =
 -- ---- the first line
 
 module _ (low high : ℤ) (number : ℤ) (line at : ℕ) where
-  pub heading_found : line ≡ 1 → within low high number ≡ true → heading_of low high (Valued number line at) ≡ Found (mag number) at
+  pub heading_found : line ≡ 1 → within low high number ≡ true → heading_of low high (Ok (record { number = number; line = line; at = at })) ≡ Some (record { number = mag number; at = at })
   unfolding heading_of
   heading_found e w = rw (eq-eqb line 1 e, w, heading_of)
 
-  pub heading_other_line : (line ≡ 1 → ⊥) → heading_of low high (Valued number line at) ≡ Missing
+  pub heading_other_line : (line ≡ 1 → ⊥) → heading_of low high (Ok (record { number = number; line = line; at = at })) ≡ None
   unfolding heading_of
   heading_other_line n = rw (ne_eqb line 1 n, heading_of)
 
-  pub heading_outside : line ≡ 1 → within low high number ≡ false → heading_of low high (Valued number line at) ≡ Missing
+  pub heading_outside : line ≡ 1 → within low high number ≡ false → heading_of low high (Ok (record { number = number; line = line; at = at })) ≡ None
   unfolding heading_of
   heading_outside e w = rw (eq-eqb line 1 e, w, heading_of)
+
+-- An item where one comes next, and none.
+pub item_next : (r : Result Item NoNumber) {item : Item} → Some item ≡ result_ok r → r ≡ Ok item
+item_next (Ok other) e = cc
+item_next (Err none) e = cc
+
+pub no_heading : (low high : ℤ) (r : Result Item NoNumber) → None ≡ result_ok r → heading_of low high r ≡ None
+unfolding heading_of
+no_heading low high (Ok item) e = cc
+no_heading low high (Err none) e = refl
 
 -- A range from 0 or more up to a number of 32 bits is narrower than 32 bits.
 narrower : (low high : ℕ) (z : ℤ) → high ≤ 2147483647 → within (pos low) (pos high) z ≡ true → is_whole z ≡ true
@@ -123,9 +133,9 @@ pub record HeadingFound (text : List ℕ) (at low high number next : ℕ) : Type
   pub bounds : (low ≤ number) × (number ≤ high)
   pub placed : PositionIn text (record { at = next; line = 1 })
 
-abbrev pub HeadingSeen : List ℕ → ℕ → ℕ → ℕ → Heading → Type 0
-HeadingSeen text at low high (Found number next) = HeadingFound text at low high number next
-HeadingSeen text at low high Missing = (word : Word) (more : List Word) → words_at text (record { at = at; line = 1 }) ≡ word ∷ more → is_heading low high word ≡ false
+abbrev pub HeadingSeen : List ℕ → ℕ → ℕ → ℕ → Option Heading → Type 0
+HeadingSeen text at low high (Some found) = HeadingFound text at low high found.number found.at
+HeadingSeen text at low high None = (word : Word) (more : List Word) → words_at text (record { at = at; line = 1 }) ≡ word ∷ more → is_heading low high word ≡ false
 
 pub heading_seen : (text : List ℕ) (at low high : ℕ) → high ≤ 2147483647 → PositionIn text (record { at = at; line = 1 }) → HeadingSeen text at low high (heading_at text at (pos low) (pos high))
 unfolding heading_at heading_of is_heading is_number_from is_value_word
@@ -148,25 +158,25 @@ heading_seen text at low high few p = by_item (item_at text place) (item_seen p)
       placed = s.placed;
     }
 
-    by_item : (item : Item) → Seen text place item → HeadingSeen text at low high (heading_of (pos low) (pos high) item)
-    by_item (Valued number line next) s =
-        yes_or_no (eqb line 1)
+    by_item : (item : Result Item NoNumber) → Seen text place item → HeadingSeen text at low high (heading_of (pos low) (pos high) item)
+    by_item (Ok item) s =
+        yes_or_no (eqb item.line 1)
         (λ e.
-        let one = eqb-true line 1 e in
-        yes_or_no (within (pos low) (pos high) number)
-        (λ w. rw (heading_found (pos low) (pos high) number line next one w) (found number next (subst (λ line. SeenValue text place number (record { at = next; line = line })) one s) w))
+        let one = eqb-true item.line 1 e in
+        yes_or_no (within (pos low) (pos high) item.number)
+        (λ w. rw (heading_found (pos low) (pos high) item.number item.line item.at one w) (found item.number item.at (subst (λ line. SeenValue text place item.number (record { at = item.at; line = line })) one s) w))
         (λ w.
-        rw (heading_outside (pos low) (pos high) number line next one w)
-        (first_only (record { line = line; bytes = s.word }) (words_at text (record { at = next; line = line })) s.first
-        (one_fails (eqb line 1) (is_number s.word && within (pos low) (pos high) (number_of s.word))
+        rw (heading_outside (pos low) (pos high) item.number item.line item.at one w)
+        (first_only (record { line = item.line; bytes = s.word }) (words_at text (record { at = item.at; line = item.line })) s.first
+        (one_fails (eqb item.line 1) (is_number s.word && within (pos low) (pos high) (number_of s.word))
         (one_fails (is_number s.word) (within (pos low) (pos high) (number_of s.word)) (ap (within (pos low) (pos high)) (sym s.number_is) ∙ w))))))
         (λ e.
-        rw (heading_other_line (pos low) (pos high) number line next (eqb-false line 1 e))
-        (first_only (record { line = line; bytes = s.word }) (words_at text (record { at = next; line = line })) s.first
+        rw (heading_other_line (pos low) (pos high) item.number item.line item.at (eqb-false item.line 1 e))
+        (first_only (record { line = item.line; bytes = s.word }) (words_at text (record { at = item.at; line = item.line })) s.first
         (ap (λ b. b && (is_number s.word && within (pos low) (pos high) (number_of s.word))) e)))
-    by_item (Other line) (some_word s) =
-        first_only (record { line = line; bytes = s.word }) s.more s.first
-        (one_fails (eqb line 1) (is_number s.word && within (pos low) (pos high) (number_of s.word)) no_number)
+    by_item (Err none) (some_word s) =
+        first_only (record { line = none.line; bytes = s.word }) s.more s.first
+        (one_fails (eqb none.line 1) (is_number s.word && within (pos low) (pos high) (number_of s.word)) no_number)
       where
         no_number : (is_number s.word && within (pos low) (pos high) (number_of s.word)) ≡ false
         no_number =
@@ -175,4 +185,4 @@ heading_seen text at low high few p = by_item (item_at text place) (item_seen p)
             let parts = both (is_number s.word) (within (pos low) (pos high) (number_of s.word)) e in
             absurd (false≢true (sym s.value ∙ and_both (is_number s.word) (is_whole (number_of s.word)) parts.0 (narrower low high (number_of s.word) few parts.1))))
             (λ e. e)
-    by_item (Other line) (no_word s) = λ word more e. let none = s.none in let z : ◌≡◌ {A = ℕ} 0 1 = cc in absurd (omega arith)
+    by_item (Err none) (no_word s) = λ word more e. let no_words = s.none in let z : ◌≡◌ {A = ℕ} 0 1 = cc in absurd (omega arith)

@@ -1,5 +1,5 @@
 -- The values of a text, read one after the other.
-use Rattle.std.specs.Prelude.{ℕ, zero, suc, ◌+◌, ◌-◌, ◌≤◌, ◌<◌, ◌≡◌, refl, true, false, length, set, ℤ}
+use Rattle.std.specs.Prelude.{ℕ, zero, suc, ◌+◌, ◌-◌, ◌≤◌, ◌<◌, ◌≡◌, refl, true, false, length, set, ℤ, Result, Ok, Err}
 use Rattle.std.proofs.Common.{sym, ◌∙◌, ap₂, length-append}
 use Rattle.std.proofs.Math.Path.{ap}
 use mathlib.Core.List.{List, [], ◌∷◌, ◌++◌, append-nil, append_assoc}
@@ -11,9 +11,12 @@ use Rattle.numbers.proofs.Laws.Written.{length_kept, stored_behind}
 use Rattle.decimal.specs.Words.{Word, last_line}
 use Rattle.decimal.specs.Numbers.{number_of}
 use Rattle.decimal.specs.Table.{Read, got, wrong, map_read, is_value_word, values_read, values_found}
+use Rattle.std.specs.Result.{MatchResult}
 use Rattle.decimal.specs.declared.Position.{Position}
+use Rattle.decimal.specs.declared.Item.{Item}
+use Rattle.decimal.specs.declared.NoNumber.{NoNumber}
+use Rattle.decimal.specs.declared.Wrong.{Wrong}
 use Rattle.decimal.specs.declared.Expected.TheVariants.{Value}
-use Rattle.decimal.specs.declared.Body.TheVariants.{Good, Wrong}
 use Rattle.decimal.specs.Inner.Positions.{words_at, PositionIn}
 use Rattle.decimal.specs.Inner.Values.{body_judged}
 use Rattle.decimal.proofs.Laws.Items.{SeenValue, SeenOther, some_word, no_word}
@@ -135,14 +138,14 @@ module _ (text : List ℕ) (start : Position) (count : ℕ) (row : List ℤ) whe
           }
 
       -- The text goes wrong here: the answer, and the row with those before.
-      wrong_here : {line : ℕ} → values_read (last_line text) (suc (count - (j + 1))) (words_at text place) ≡ wrong line Value → body_judged (values_read (last_line text) count (words_at text start)) ≡ Wrong line Value
+      wrong_here : {line : ℕ} → values_read (last_line text) (suc (count - (j + 1))) (words_at text place) ≡ wrong line Value → body_judged (values_read (last_line text) count (words_at text start)) ≡ Err (record { line = line; expected = Value })
       unfolding body_judged
       wrong_here e = ap body_judged (v.left ∙ ap (map_read (λ more. v.found ++ more)) (ap (λ k. values_read (last_line text) k (words_at text place)) one_less ∙ e))
 
       written_here : values_found (suc (count - (j + 1))) (words_at text place) ≡ [] → row' ≡ overwritten row 0 (values_found count (words_at text start))
       written_here e = v.written ∙ ap (overwritten row 0) (sym (v.all ∙ ap (λ more. v.found ++ more) (ap (λ k. values_found k (words_at text place)) one_less ∙ e) ∙ append-nil v.found))
 
-      pub other_checked : {line : ℕ} → SeenOther text place line → body_judged (values_read (last_line text) count (words_at text start)) ≡ Wrong line Value
+      pub other_checked : {line : ℕ} → SeenOther text place line → body_judged (values_read (last_line text) count (words_at text start)) ≡ Err (record { line = line; expected = Value })
       unfolding values_read
       other_checked {line} (some_word s) = wrong_here (ap (values_read (last_line text) (suc (count - (j + 1)))) s.first ∙ other_read (last_line text) (count - (j + 1)) (record { line = line; bytes = s.word }) s.more s.value)
       other_checked (no_word s) = wrong_here (ap (values_read (last_line text) (suc (count - (j + 1)))) s.none ∙ ap (λ line. wrong line Value) (sym s.last))
@@ -152,10 +155,20 @@ module _ (text : List ℕ) (start : Position) (count : ℕ) (row : List ℤ) whe
       other_written {line} (some_word s) = written_here (ap (values_found (suc (count - (j + 1)))) s.first ∙ other_found (last_line text) (count - (j + 1)) (record { line = line; bytes = s.word }) s.more s.value)
       other_written (no_word s) = written_here (ap (values_found (suc (count - (j + 1)))) s.none)
 
+-- Where no number comes next, whose error says so.
+pub missed : (r : Result Item NoNumber) (w : Wrong) {P : NoNumber → Type 0} → MatchResult r (λ item. ◌≡◌ {A = Result Item Wrong} (Err w) (Ok item)) P
+    → ((none : NoNumber) → P none → w ≡ record { line = none.line; expected = Value }) → (line : ℕ) × (r ≡ Err (record { line = line })) × (w ≡ record { line = line; expected = Value })
+missed (Ok item) w e say = cc
+missed (Err none) w e say = (none.line, refl, say none e)
+
+pub came : (r : Result Item NoNumber) (item : Item) → MatchResult r (λ other. ◌≡◌ {A = Result Item Wrong} (Ok item) (Ok other)) (λ none. ⊥) → r ≡ Ok item
+came (Ok other) item e = cc
+came (Err none) item e = absurd e
+
 -- ---- values that are all there
 
 -- They are those found, as many as asked for.
-pub good_values : (end count : ℕ) (words : List Word) → body_judged (values_read end count words) ≡ Good → (values_read end count words ≡ got (values_found count words)) × (length (values_found count words) ≡ count)
+pub good_values : (end count : ℕ) (words : List Word) → body_judged (values_read end count words) ≡ Ok tt → (values_read end count words ≡ got (values_found count words)) × (length (values_found count words) ≡ count)
 unfolding body_judged values_read values_found
 good_values end zero [] e = (refl, refl)
 good_values end zero (word ∷ more) e = let z : ◌≡◌ {A = ℕ} 0 1 = cc in absurd (omega arith)

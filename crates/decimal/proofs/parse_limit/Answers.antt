@@ -1,6 +1,7 @@
 -- `decimal::parse_limit` meets its contract: the limit, nothing more on the first line, and the values.
-use mathlib.Core.Path.{◌≡◌, sym, ◌∙◌, subst}
-use native.Mathlib.Omega.{arith}
+use Rattle.std.proofs.Common.{◌≡◌, sym, ◌∙◌, arith, subst}
+use Rattle.std.specs.Prelude.{Option}
+use Rattle.std.proofs.lemmas.Grind.{common_steps}
 use Rattle.decimal.specs.Words.{last_line}
 use Rattle.decimal.specs.Table.{body_read}
 use Rattle.decimal.specs.declared.Expected.TheVariants.{Limit, LineEnd}
@@ -10,44 +11,42 @@ use Rattle.decimal.specs.Inner.Values.{limit_at}
 use Rattle.decimal.proofs.Laws.Items.{HeadingFound, HeadingSeen, heading_seen}
 use Rattle.decimal.proofs.Laws.Tables.{no_limit, limit_second, body_more, body_values, wrong_answers, same_answers}
 use Rattle.decimal.proofs.parse_limit.Goals as goal
-use Rattle.decimal.proofs.parse_limit.Goals.{After-heading, In-Found}
+use Rattle.decimal.proofs.parse_limit.Goals.{After-heading, In_ok-limit}
 
 -- The limit, as it was found behind n.
-module _ (c : After-heading) where
-  seen : {found : Heading} → c.heading.result ≡ found → HeadingSeen c.args.text.now c.args.at 0 255 found
-  seen e = subst (HeadingSeen c.args.text.now c.args.at 0 255) (sym c.heading.ensures ∙ e) (heading_seen c.args.text.now c.args.at 0 255 (omega arith) c.requires.placed)
+seen : (c : After-heading) {found : Option Heading} → c.heading.result ≡ found → HeadingSeen c.args.text.now c.args.at 0 255 found
+seen c e = subst (HeadingSeen c.args.text.now c.args.at 0 255) (sym c.heading.ensures ∙ e) (heading_seen c.args.text.now c.args.at 0 255 (omega arith) c.requires.placed)
 
-module _ (c : In-Found) where
-  found : HeadingFound c.args.text.now c.args.at 0 255 c.in-Found.limit c.in-Found.behind
-  found =
-      subst (HeadingSeen c.args.text.now c.args.at 0 255) (sym c.heading.ensures ∙ c.in-Found.is) (heading_seen c.args.text.now c.args.at 0 255 (omega arith) c.requires.placed)
+module _ (c : In_ok-limit) where
+  found : HeadingFound c.args.text.now c.args.at 0 255 c.in_ok-limit.limit.number c.in_ok-limit.limit.at
+  found = subst (HeadingSeen c.args.text.now c.args.at 0 255) (sym c.heading.ensures ∙ c.in_ok-limit.ensures.ok_part) (heading_seen c.args.text.now c.args.at 0 255 (omega arith) c.requires.placed)
 
-  body_is : limit_at c.args.text.now c.args.at c.args.n ≡ body_read (last_line c.args.text.now) c.args.n c.in-Found.limit (words_at c.args.text.now (record { at = c.in-Found.behind; line = 1 }))
+  body_is : limit_at c.args.text.now c.args.at c.args.n ≡ body_read (last_line c.args.text.now) c.args.n c.in_ok-limit.limit.number (words_at c.args.text.now (record { at = c.in_ok-limit.limit.at; line = 1 }))
   body_is = limit_second c.args.text.now c.args.n c.args.at found
 
-pub returns-in_default : goal.returns-in_default
-returns-in_default c =
-    let h = (goal.at.returns-in_default c).After-heading in
+pub returns-in_err-limit : goal.returns-in_err-limit
+returns-in_err-limit c =
+    let h = (goal.at.returns-in_err-limit c).After-heading in
     let a = c.args in
-    wrong_answers 1 Limit a.input.now (no_limit a.text.now a.n a.at (seen h c.in_default.is))
+    let law = wrong_answers (record { line = 1; expected = Limit }) a.input.now (no_limit a.text.now a.n a.at (seen h c.in_err-limit.ensures.ok_part)) in
+    grind (arith, common_steps)
 
 pub has_more-requires : goal.has_more-requires
-has_more-requires c = (found (goal.at.has_more-requires c).In-Found).placed
+has_more-requires c = (found c).placed
 
 pub returns-then-has_more : goal.returns-then-has_more
 returns-then-has_more c =
-    let l = (goal.at.returns-then-has_more c).In-Found in
+    let l = (goal.at.returns-then-has_more c).In_ok-limit in
     let a = c.args in
-    wrong_answers 1 LineEnd a.input.now (body_is l ∙ body_more _ a.n c.in-Found.limit _ (sym c.has_more.ensures ∙ c.if-has_more.true))
+    wrong_answers (record { line = 1; expected = LineEnd }) a.input.now (body_is l ∙ body_more _ a.n c.in_ok-limit.limit.number _ (sym c.if-has_more.ensures))
 
 pub parse_values-requires : goal.parse_values-requires
 parse_values-requires c =
-    let l = (goal.at.parse_values-requires c).In-Found in
+    let l = (goal.at.parse_values-requires c).In_ok-limit in
     let p = c.requires in
     record { placed = (found l).placed; few = p.few; limit_byte = (found l).bounds.1; room = p.room }
 
 pub returns : goal.returns
 returns c =
-    let l = (goal.at.returns c).In-Found in
-    let a = c.args in
-    same_answers (body_is l ∙ body_values _ a.n c.in-Found.limit _ (sym c.has_more.ensures ∙ c.if-has_more.false)) c.parse_values.ensures
+    let l = (goal.at.returns c).In_ok-limit in
+    same_answers (body_is l ∙ body_values _ c.args.n c.in_ok-limit.limit.number _ (sym c.if-has_more.ensures)) c.parse_values.ensures

@@ -1,15 +1,11 @@
 -- The number of a word, by its sign and its digits.
-use Rattle.std.specs.Prelude.{ℕ, Bool, true, false, ◌&&◌, List, leb, ℤ, pos, neg_ℤ}
+use Rattle.std.specs.Prelude.{ℕ, Bool, true, false, ◌&&◌, List, leb, ℤ, pos, neg_ℤ, Option, Some, None}
 use Rattle.numbers.specs.Lists.{every}
 use Rattle.numbers.specs.Ranges.{within}
 use Rattle.lines.specs.Reading.{is_digit, read_digits}
 use Rattle.decimal.specs.Words.{is_some}
 use Rattle.decimal.specs.Numbers.{is_sign, number_of}
 use Rattle.decimal.specs.Table.{is_value_word}
-use Rattle.decimal.specs.declared.Digits.{Digits}
-use Rattle.decimal.specs.declared.Digits.TheVariants.{Small, NotSmall}
-use Rattle.decimal.specs.declared.Number.{Number}
-use Rattle.decimal.specs.declared.Number.TheVariants.{Whole, NotWhole}
 
 -- The largest size of a value, that of the least one.
 unfoldable pub largest_size : ℕ
@@ -19,8 +15,8 @@ largest_size = 2147483648
 unfoldable pub is_small : List ℕ → Bool
 is_small digits = (is_some digits && every is_digit digits) && leb (read_digits 0 digits) largest_size
 
-unfoldable pub small_number : List ℕ → Digits
-small_number digits = elim (is_small digits) [ true ↦ Small (read_digits 0 digits) | false ↦ NotSmall ]
+unfoldable pub small_number : List ℕ → Option ℕ
+small_number digits = elim (is_small digits) [ true ↦ Some (read_digits 0 digits) | false ↦ None ]
 
 -- How many bytes of a word with this first byte are its sign.
 unfoldable pub sign_length : ℕ → ℕ
@@ -34,12 +30,12 @@ signed_size size negative = elim negative [ true ↦ neg_ℤ (pos size) | false 
 abbrev pub is_whole : ℤ → Bool
 is_whole z = within (neg_ℤ (pos 2147483648)) (pos 2147483647) z
 
-unfoldable pub whole_number : ℤ → Number
-whole_number z = elim (is_whole z) [ true ↦ Whole z | false ↦ NotWhole ]
+unfoldable pub whole_number : ℤ → Option ℤ
+whole_number z = elim (is_whole z) [ true ↦ Some z | false ↦ None ]
 
-unfoldable pub signed_number : ℕ → Bool → Number
+unfoldable pub signed_number : ℕ → Bool → Option ℤ
 signed_number size negative = whole_number (signed_size size negative)
 
 -- The number of a word that is a value.
-unfoldable pub word_number : List ℕ → Number
-word_number word = elim (is_value_word word) [ true ↦ Whole (number_of word) | false ↦ NotWhole ]
+unfoldable pub word_number : List ℕ → Option ℤ
+word_number word = elim (is_value_word word) [ true ↦ Some (number_of word) | false ↦ None ]

@@ -1,5 +1,5 @@
 -- Build's node count, and the bound where no step jumps.
-use Rattle.std.specs.Prelude.{ℕ, ◌^◌, suc, ◌+◌, ◌-◌, ◌≡◌, List, length, ℤ, pos, neg_ℤ, ◌+ℤ◌, ◌-ℤ◌, ◌*ℤ◌}
+use Rattle.std.specs.Prelude.{ℕ, ◌^◌, ◌+◌, ◌-◌, ◌≡◌, List, length, ℤ, pos, neg_ℤ, ◌+ℤ◌, ◌-ℤ◌, ◌*ℤ◌}
 use Rattle.std.proofs.Common.{sym, ◌∙◌, ap, one-mul, add-one}
 use Rattle.numbers.specs.Answers.{accepted}
 use Rattle.diagram.specs.Bound.{jumps, rising_kinds, node_bound}

@@ -1,12 +1,12 @@
 -- The pair run goes by its checks.
-use Rattle.std.specs.Prelude.{ℕ, ◌+◌, ◌*◌, ◌^◌, ◌≤◌, ◌<◌, ◌≡◌, ◌↔◌, true, false, ◌&&◌, List, [], ◌∷◌, leb, ltb, eqb, length}
+use Rattle.std.specs.Prelude.{ℕ, ◌+◌, ◌*◌, ◌^◌, ◌≤◌, ◌<◌, ◌≡◌, ◌↔◌, true, List, [], ◌∷◌, leb, ltb, eqb}
 use Rattle.std.proofs.Math.Path.{refl, ap}
-use Rattle.std.proofs.Common.{sym, ◌∙◌, subst, inl, inr, true≢false, eqb-true, eq-eqb}
+use Rattle.std.proofs.Common.{sym, ◌∙◌, subst, true≢false, eqb-true, eq-eqb}
 use Rattle.numbers.specs.Answers.{Answer, accepted, refused, unless, and_then}
 use Rattle.numbers.proofs.Laws.Answers.{not_refused}
 use Rattle.numbers.proofs.Laws.Bools.{yes_or_no}
-use Rattle.numbers.proofs.Laws.Tests.{le_test, lt_test, eq_test, and_test}
-use Rattle.operands.specs.Bytes.{AreBytes, unsigned_at}
+use Rattle.numbers.proofs.Laws.Tests.{le_test, lt_test, and_test}
+use Rattle.operands.specs.Bytes.{AreBytes}
 use Rattle.image.specs.Cells.{Card}
 use Rattle.image.specs.Commands.{card_of}
 use Rattle.image.specs.Reader.{due, command_at, place_after, step, start, reading, reading_for}
@@ -18,7 +18,7 @@ use Rattle.image.specs.declared.Place.{Place}
 use Rattle.pairs.specs.Pairs.{is_pair_bits, is_pair, pair_index, pair_run}
 use Rattle.pairs.proofs.Laws.Indices.{index_below}
 use Rattle.demands.specs.Checks.{AllHold, Decided}
-use Rattle.demands.specs.Admitted.{command_here, place_checks, ImageFault, ImageOf}
+use Rattle.demands.specs.Admitted.{command_here, place_checks, ImageOf}
 use Rattle.demands.specs.Requested.{first_n, FaultFor, another, as_ever, image_check_for, pair_checks}
 use Rattle.demands.proofs.Laws.Checks.{decided_accepted, decided_passing, decided_unless, decided_then, decided_check}
 use Rattle.demands.proofs.Laws.Image.{decided_step, step_goes, reading_fault, reading_card, read_card}

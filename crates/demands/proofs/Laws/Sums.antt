@@ -1,5 +1,5 @@
 -- Sum and Remainder go by their checks, and what they answer and leave.
-use Rattle.std.specs.Prelude.{ℕ, suc, ◌+◌, ◌^◌, ◌≤◌, ◌<◌, ◌≡◌, ◌↔◌, Bool, true, ◌&&◌, List, ◌++◌, [], ◌∷◌, length, get_or, ℤ, pos, leb, eqb}
+use Rattle.std.specs.Prelude.{ℕ, suc, ◌+◌, ◌^◌, ◌≤◌, ◌<◌, ◌≡◌, ◌↔◌, true, List, ◌++◌, length, get_or, ℤ, pos, leb, eqb}
 use Rattle.std.proofs.Common.{sym, ◌∙◌, ap, subst, arith, pow_pos}
 use Rattle.numbers.specs.Answers.{Answer, accepted, buffer_after}
 use Rattle.numbers.specs.Conditions.{TableValue}

@@ -2,7 +2,7 @@
 use Prim.Native.Nat.{ℕ, suc, ◌+◌, ◌-◌, ◌*◌, ◌≤◌, ◌<◌}
 use Rattle.std.specs.Prelude.{◌≡◌, refl, length, get_or, ℤ}
 use Rattle.std.proofs.Math.Path.{sym, ap}
-use Rattle.std.proofs.Common.{◌∙◌, ap₂, zero-add, add-one}
+use Rattle.std.proofs.Common.{◌∙◌, ap₂, zero-add}
 use mathlib.Core.List.{List, [], ◌∷◌, ◌++◌, flat_map, append-nil}
 use Rattle.std.proofs.Math.Nat.{sub_self, sub-zero}
 use native.Mathlib.Omega.{arith}
@@ -13,15 +13,16 @@ use Rattle.numbers.proofs.Laws.Overwriting.{length_overwritten}
 use Rattle.numbers.proofs.Laws.Rows.{overwritten_none, overwritten_more}
 use Rattle.numbers.proofs.Laws.Selections.{flat_map_append}
 use Rattle.blocks.specs.Rows.{cut_place}
-use Rattle.blocks.specs.Inner.Layout.{class_at}
+use Rattle.blocks.specs.Inner.Layout.{AllClassed, class_at}
 use Rattle.blocks.proofs.Laws.Classes.{class_count_le}
+use Rattle.diagram.specs.Accepted.{Accepted}
 use Rattle.diagram.specs.Build.{node_room}
 use Rattle.diagram.specs.Records.{records_below, node, records_at, records, record_numbers, record_size}
-use Rattle.diagram.specs.Inner.Building.{NodesKnown, CutReady, CutRecorded, BuildReady, AllRecorded}
+use Rattle.diagram.specs.Inner.Building.{NodesKnown, CutReady, CutRecorded, AllRecorded}
 use Rattle.diagram.proofs.Laws.Checks.{variables_range}
 use Rattle.diagram.proofs.Laws.CutRecords.{cut_known}
 use Rattle.diagram.proofs.Laws.Numbering.{numbers_length, records_before, records_count, records_room, below_more}
-use Rattle.blocks.proofs.Laws.Places.{place_inside, length_counts, count_at}
+use Rattle.blocks.proofs.Laws.Places.{place_inside, length_counts}
 
 -- The numbers of the records of the variables below i.
 abbrev pub numbers_below : ℕ → List ℤ → ℕ → List ℤ
@@ -47,11 +48,11 @@ pub record RecordsSoFar (n : ℕ) (table nodes₀ nodes : List ℤ) (row : List 
   pub below : NodesKnown n table (n - i) row
   pub recorded : nodes ≡ overwritten nodes₀ 0 (numbers_below n table i)
 
-module _ {n : ℕ} {table : List ℤ} {class_row first_row count_row : List ℕ} {nodes₀ : List ℤ} (b : BuildReady n table class_row first_row count_row nodes₀) where
+module _ {n : ℕ} {table : List ℤ} (admitted : Accepted n table) (nodes₀ : List ℤ) (room : node_room n ≤ length nodes₀) where
   -- A row of 8191 places has room for the cuts of 12 variables.
   row_room : (row : List ℕ) → length row ≡ 8191 → cut_place (suc n) ≤ length row
   unfolding cut_place
-  row_room row long = let p = pow_mono {i = suc n} {j = 13} (let v = (variables_range n b.admitted.variables).1 in omega arith) in omega arith
+  row_room row long = let p = pow_mono {i = suc n} {j = 13} (let v = (variables_range n admitted.variables).1 in omega arith) in omega arith
 
   -- The single values of cut n have node 0.
   no_nodes : (values : List ℤ) → node n table (n - n) values ≡ 0
@@ -82,54 +83,57 @@ module _ {n : ℕ} {table : List ℤ} {class_row first_row count_row : List ℕ}
       let m = below_more n table i n l in
       let c = records_count n table in
       let r = records_room n table in
-      let d = b.room in
       omega arith
 
   -- Every cut has its count.
-  pub cuts_counted : n < length count_row
-  cuts_counted = rw (b.counts, length_counts n table) (omega arith)
+  pub cuts_counted : {class_row first_row count_row : List ℕ} → AllClassed n table class_row first_row count_row → n < length count_row
+  cuts_counted classed = rw (classed.counted, length_counts n table) (omega arith)
 
   module _ {nodes : List ℤ} {row : List ℕ} {made i : ℕ} (s : RecordsSoFar n table nodes₀ nodes row made i) where
     pub buffer_kept : length nodes ≡ length nodes₀
     buffer_kept = ap length s.recorded ∙ length_overwritten nodes₀ 0 (numbers_below n table i) (inside i s.height)
 
-    -- The next cut up, whose blocks' halves have height i.
-    module _ (some : i < n) where
-      up : suc (n - 1 - i) ≡ n - i
-      up = omega arith
+    -- A cut h, whose blocks' halves have height i.
+    module _ (h : ℕ) (up : n - i ≡ suc h) where
+      half : n - suc h ≡ i
+      half = let l = s.height in omega arith
 
-      half : n - suc (n - 1 - i) ≡ i
-      half = omega arith
-
-      pub cut_ready : CutReady n (n - 1 - i) (get_or count_row (n - 1 - i) 0) made table class_row first_row row nodes
-      cut_ready = record {
-        admitted = b.admitted;
+      pub ready_at : CutReady n h made table row nodes
+      ready_at = record {
         cut = omega arith;
-        class_counted = rw b.counts (count_at n table (n - 1 - i) (omega arith));
-        numbered = b.numbered;
-        placed = b.placed;
-        below = rw up s.below;
+        below = rw (← up) s.below;
         counted = rw half s.counted;
-        room = rw buffer_kept b.room;
+        room = rw buffer_kept room;
       }
 
-      pub records_next : {made' : ℕ} {row' : List ℕ} {nodes' : List ℤ} → CutRecorded n (n - 1 - i) made table row nodes made' row' nodes' → RecordsSoFar n table nodes₀ nodes' row' made' (i + 1)
-      records_next d = record {
+      pub records_placed : {made' : ℕ} {row' : List ℕ} {nodes' : List ℤ} → CutRecorded n h made table row nodes made' row' nodes' → RecordsSoFar n table nodes₀ nodes' row' made' (n - h)
+      records_placed d = record {
         height = omega arith;
-        counted = d.counted ∙ ap (records_below n table) (let e : n - (n - 1 - i) ≡ i + 1 = omega arith in e);
-        below = rw (let e : n - (i + 1) ≡ n - 1 - i = omega arith in e) (cut_known (omega arith) s.below.places d);
+        counted = d.counted;
+        below = rw (let e : n - (n - h) ≡ h = omega arith in e) (cut_known (omega arith) s.below.places d);
         recorded =
             d.recorded
-            ∙ ap₂ (λ x k. overwritten x k (flat_map record_numbers (records_at n table (n - suc (n - 1 - i))))) s.recorded at_end
-            ∙ overwritten_more nodes₀ 0 (numbers_below n table i) (inside i s.height) (flat_map record_numbers (records_at n table (n - suc (n - 1 - i))))
+            ∙ ap₂ (λ x k. overwritten x k (flat_map record_numbers (records_at n table (n - suc h)))) s.recorded at_end
+            ∙ overwritten_more nodes₀ 0 (numbers_below n table i) (inside i s.height) (flat_map record_numbers (records_at n table (n - suc h)))
             ∙ ap (overwritten nodes₀ 0)
             (ap (λ k. numbers_below n table i ++ flat_map record_numbers (records_at n table k)) half
             ∙ sym (numbers_below_suc n table i)
-            ∙ ap (numbers_below n table) (sym (add-one i)));
+            ∙ ap (numbers_below n table) (let e : suc i ≡ n - h = omega arith in e));
       }
         where
           at_end : record_size * made ≡ 0 + length (numbers_below n table i)
           at_end = ap (λ m. record_size * m) s.counted ∙ sym (zero-add (length (numbers_below n table i)) ∙ numbers_below_length n table i)
+
+    -- The next cut up.
+    module _ (some : i < n) where
+      up : suc (n - 1 - i) ≡ n - i
+      up = omega arith
+
+      pub cut_ready : CutReady n (n - 1 - i) made table row nodes
+      cut_ready = ready_at (n - 1 - i) (sym up)
+
+      pub records_next : {made' : ℕ} {row' : List ℕ} {nodes' : List ℤ} → CutRecorded n (n - 1 - i) made table row nodes made' row' nodes' → RecordsSoFar n table nodes₀ nodes' row' made' (i + 1)
+      records_next d = rw (let e : i + 1 ≡ n - (n - 1 - i) = omega arith in e) (records_placed (n - 1 - i) (sym up) d)
 
     -- All heights.
     pub records_done : n ≤ i → AllRecorded n table nodes₀ made nodes

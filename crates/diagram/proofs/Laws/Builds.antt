@@ -1,6 +1,6 @@
 -- Build's answer and buffer: refusals in their order, and the records of a table that passes.
 use Prim.Native.Nat.{ℕ, suc, ◌+◌, ◌-◌, ◌*◌, ◌^◌, ◌≤◌, ◌<◌}
-use Rattle.std.specs.Prelude.{◌≡◌, ◌↔◌, leb, eqb, ℤ}
+use Rattle.std.specs.Prelude.{◌≡◌, ◌↔◌, leb, eqb, ℤ, Ok, Err}
 use Rattle.std.proofs.Math.Path.{refl, sym, ap, ap₂}
 use Rattle.std.proofs.Common.{◌∙◌, add-one}
 use mathlib.Core.List.{List, ◌++◌, flat_map}
@@ -20,7 +20,9 @@ use Rattle.diagram.specs.Build.{of_table, node_room, build, Summary, summary_of,
 use Rattle.diagram.specs.Inner.Checks.{table_checks}
 use Rattle.diagram.specs.Inner.Building.{AllRecorded}
 use Rattle.diagram.proofs.Laws.Numbering.{written_length}
-use Rattle.diagram.specs.declared.Built.TheVariants.{Diagram, Refused}
+use Rattle.numbers.specs.Refusals.{number, answer_of}
+use Rattle.numbers.specs.declared.Refusal.{Refusal}
+use Rattle.numbers.specs.declared.Refusal.TheVariants as refusals
 
 -- A refusal accepts nothing.
 never : {A : Type 0} (k : ℕ) (a : A) → ◌≡◌ {A = Answer A} (refused k) (accepted a) → ⊥
@@ -61,26 +63,26 @@ module _ (n : ℕ) (table : List ℤ) where
 
   -- ---- Build
 
-  pub build_refused : (nodes : List ℤ) (k : ℕ) → build n table (length nodes) ≡ refused k → Builds n table nodes (Refused k) nodes
-  unfolding built build_answer build_buffer
-  build_refused nodes k e = record { answered = rw e; left = sym (ap (λ a. buffer_after a (flat_map record_numbers) nodes) e) }
+  pub build_refused : (nodes : List ℤ) (r : Refusal) → build n table (length nodes) ≡ refused (number r) → Builds n table nodes (Err r) nodes
+  unfolding built build_answer build_buffer answer_of
+  build_refused nodes r e = record { answered = rw e; left = sym (ap (λ a. buffer_after a (flat_map record_numbers) nodes) e) }
 
   -- The checks' own refusal, and that of a short buffer.
-  pub build_unfit : (nodes : List ℤ) (k : ℕ) → table_checks n table ≡ refused k → Builds n table nodes (Refused k) nodes
+  pub build_unfit : (nodes : List ℤ) (r : Refusal) → table_checks n table ≡ refused (number r) → Builds n table nodes (Err r) nodes
   unfolding build
-  build_unfit nodes k e = build_refused nodes k (after_checks _ ∙ ap (λ a. and_then a (λ t. unless (leb (node_room n) (length nodes)) 4 (accepted (records n table)))) e)
+  build_unfit nodes r e = build_refused nodes r (after_checks _ ∙ ap (λ a. and_then a (λ t. unless (leb (node_room n) (length nodes)) 4 (accepted (records n table)))) e)
 
   build_reached : (room : ℕ) → Accepted n table → node_room n ≤ room → build n table room ≡ accepted (records n table)
   unfolding build
   build_reached room a l = table_passes_lem _ a ∙ ap (λ b. unless b 4 (accepted (records n table))) (le-leb (node_room n) room l)
 
   module _ (a : Accepted n table) (nodes : List ℤ) where
-    pub build_short : length nodes < node_room n → Builds n table nodes (Refused 4) nodes
-    unfolding build
-    build_short l = build_refused nodes 4 (table_passes_lem _ a ∙ ap (λ b. unless b 4 (accepted (records n table))) (lt-leb (node_room n) (length nodes) l))
+    pub build_short : length nodes < node_room n → Builds n table nodes (Err refusals.NodeRoom) nodes
+    unfolding build number
+    build_short l = build_refused nodes refusals.NodeRoom (table_passes_lem _ a ∙ ap (λ b. unless b 4 (accepted (records n table))) (lt-leb (node_room n) (length nodes) l))
 
-    pub build_done : {made : ℕ} {nodes' : List ℤ} (start : ℤ) → node_room n ≤ length nodes → AllRecorded n table nodes made nodes' → start ≡ first table → Builds n table nodes (Diagram (made + 1) start) nodes'
-    unfolding built build_answer build_buffer offset node_count
+    pub build_done : {made : ℕ} {nodes' : List ℤ} (start : ℤ) → node_room n ≤ length nodes → AllRecorded n table nodes made nodes' → start ≡ first table → Builds n table nodes (Ok (record { nodes = made + 1; offset = start })) nodes'
+    unfolding built build_answer build_buffer offset node_count answer_of
     build_done {made} {nodes'} start l d e = record {
       answered =
           ap₂ (λ m z. accepted (record { nodes = m; table_offset = z })) (add-one made ∙ ap suc d.counted) e

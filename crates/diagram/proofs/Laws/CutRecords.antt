@@ -21,6 +21,7 @@ use Rattle.blocks.specs.Inner.Layout.{class_at}
 use Rattle.blocks.proofs.Laws.Classes.{class_count_le}
 use Rattle.blocks.proofs.Laws.Cuts.{cut_end, cut_within}
 use Rattle.blocks.proofs.Laws.Differences.{differences_again}
+use Rattle.diagram.specs.Accepted.{Accepted}
 use Rattle.diagram.specs.Build.{node_room}
 use Rattle.diagram.specs.Records.{branches, kinds, records_below, node, record_of, records_at, record_numbers, record_size}
 use Rattle.diagram.specs.Inner.Building.{NodesKnown, Forking, RecordRoom, ClassPlaced, CutReady, CutRecorded}
@@ -52,7 +53,7 @@ class_own n table h c cut l =
     let e = (first_block n table h cut c l).1 in
     ap differences (sym e) ∙ differences_again (block table (n - h) _) ∙ e
 
-module _ {n h count before : ℕ} {table : List ℤ} {class_row first_row row₀ : List ℕ} {nodes₀ : List ℤ} (r : CutReady n h count before table class_row first_row row₀ nodes₀) where
+module _ {n h before : ℕ} {table : List ℤ} {row₀ : List ℕ} {nodes₀ : List ℤ} (admitted : Accepted n table) (r : CutReady n h before table row₀ nodes₀) where
   abbrev half : ℕ
   half = n - suc h
 
@@ -135,8 +136,8 @@ module _ {n h count before : ℕ} {table : List ℤ} {class_row first_row row₀
 
     -- The next class can be read, and there is room for its record.
     module _ (below : c < class_count n table h) where
-      pub cut_forking : Forking n h c table class_row first_row row
-      cut_forking = record { class = record { admitted = r.admitted; cut = r.cut; known = below; placed = r.placed }; numbered = r.numbered; below = next_known }
+      pub cut_forking : Forking n h c table row
+      cut_forking = record { cut = r.cut; known = below; below = next_known }
 
       abbrev here : List ℤ
       here = class_at n table h c
@@ -166,7 +167,7 @@ module _ {n h count before : ℕ} {table : List ℤ} {class_row first_row row₀
         few =
             (let f = few_records c in
             let a = s.counted in
-            let p = pow_mono {i = n} {j = 12} (variables_range n r.admitted.variables).1 in
+            let p = pow_mono {i = n} {j = 12} (variables_range n admitted.variables).1 in
             omega arith);
         room = room_for;
       }

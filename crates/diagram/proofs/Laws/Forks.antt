@@ -13,11 +13,12 @@ use Rattle.numbers.proofs.Laws.Powers.{part_room, power_split}
 use Rattle.blocks.specs.Blocks.{block, first, lower_half, upper_half}
 use Rattle.blocks.specs.Classes.{classes, class_count, class_of}
 use Rattle.blocks.specs.Rows.{cut_place}
-use Rattle.blocks.specs.Inner.Layout.{class_at}
+use Rattle.blocks.specs.Inner.Layout.{AllClassed, class_at}
 use Rattle.blocks.proofs.Laws.Blocks.{block_at}
 use Rattle.blocks.proofs.Laws.Classes.{class_below, class_stands, class_count_le}
+use Rattle.diagram.specs.Accepted.{Accepted}
 use Rattle.diagram.specs.Records.{branches, node, record_of}
-use Rattle.diagram.specs.Inner.Building.{fork_of, range_of, Forking}
+use Rattle.diagram.specs.Inner.Building.{fork_of, range_of, ClassOfCut, Forking}
 use Rattle.diagram.specs.declared.Fork.{Fork}
 use Rattle.diagram.specs.declared.Range.{Range}
 use Rattle.diagram.proofs.Laws.Alike.{BlockLike, lower_of_block, upper_of_block, whole_length, like_lower, like_upper}
@@ -59,9 +60,13 @@ fork_record n table i values f r e d w l g =
     rw (to_z-of_z w, to_z-of_z l, to_z-of_z g)
     (ap₂ (λ a b. record { variable = i; low = a.low; high = a.high; weight = a.weight; least = b.least; greatest = b.greatest }) e d)
 
-module _ {n h c : ℕ} {table : List ℤ} {class_row first_row row : List ℕ} (f : Forking n h c table class_row first_row row) where
-  open f use {class, numbered, below}
-  open class use {admitted, cut, known}
+module _ {n h c : ℕ} {table : List ℤ} {class_row first_row count_row row : List ℕ} (admitted : Accepted n table) (classed : AllClassed n table class_row first_row count_row) (f : Forking n h c table row) where
+  open f use {cut, known, below}
+  open classed use {numbered, placed}
+
+  -- The class, whose first block is in its row.
+  pub class : ClassOfCut n h c table first_row
+  class = record { admitted = admitted; cut = cut; known = known; placed = placed }
 
   abbrev half : ℕ
   half = n - suc h

@@ -4,7 +4,7 @@ use mathlib.Core.List.{List, map, flat_map}
 use Rattle.numbers.specs.Extremes.{least_of, greatest_of}
 use Rattle.numbers.specs.Lists.{overwritten}
 use Rattle.blocks.specs.Blocks.{first, lower_half, upper_half, differences}
-use Rattle.blocks.specs.Rows.{all_numbers, all_firsts, all_counts, cut_place}
+use Rattle.blocks.specs.Rows.{all_firsts, cut_place}
 use Rattle.blocks.specs.Inner.Layout.{class_at}
 use Rattle.blocks.specs.Classes.{classes, class_count}
 use Rattle.diagram.specs.Accepted.{Accepted}
@@ -38,10 +38,10 @@ pub record ClassOfCut (n h c : ℕ) (table : List ℤ) (first_row : List ℕ) : 
   pub known : c < class_count n table h
   pub placed : first_row ≡ all_firsts n table
 
--- Where its fork can be read: the row of all blocks' classes, and the nodes of the next cut.
-pub record Forking (n h c : ℕ) (table : List ℤ) (class_row first_row row : List ℕ) : Type 0 where
-  pub class : ClassOfCut n h c table first_row
-  pub numbered : class_row ≡ all_numbers n table
+-- Where the fork of class c of cut h, which lies above a variable, can be read: the row has the nodes of the next cut.
+pub record Forking (n h c : ℕ) (table : List ℤ) (row : List ℕ) : Type 0 where
+  pub cut : h < n
+  pub known : c < class_count n table h
   pub below : NodesKnown n table (suc h) row
 
 -- Room for one record more, where class c of cut h branches.
@@ -55,13 +55,9 @@ pub record ClassPlaced (n h c made : ℕ) (table : List ℤ) (row : List ℕ) (n
   pub noted : row' ≡ set row (cut_place h + c) (cond (branches (n - suc h) (class_at n table h c)) (made + 1) (node n table (n - suc h) (lower_half (n - suc h) (class_at n table h c))))
   pub recorded : nodes' ≡ cond (branches (n - suc h) (class_at n table h c)) (overwritten nodes (record_size * made) (record_numbers (record_of n table (n - suc h) (class_at n table h c)))) nodes
 
--- What the classes of cut h start from: the rows of classes, the nodes of the next cut, and the records of the variables below.
-pub record CutReady (n h count made : ℕ) (table : List ℤ) (class_row first_row row : List ℕ) (nodes : List ℤ) : Type 0 where
-  pub admitted : Accepted n table
+-- What the classes of cut h start from: the nodes of the next cut, and the records of the variables below.
+pub record CutReady (n h made : ℕ) (table : List ℤ) (row : List ℕ) (nodes : List ℤ) : Type 0 where
   pub cut : h < n
-  pub class_counted : count ≡ class_count n table h
-  pub numbered : class_row ≡ all_numbers n table
-  pub placed : first_row ≡ all_firsts n table
   pub below : NodesKnown n table (suc h) row
   pub counted : made ≡ records_below n table (n - suc h)
   pub room : node_room n ≤ length nodes
@@ -71,22 +67,6 @@ pub record CutRecorded (n h made : ℕ) (table : List ℤ) (row : List ℕ) (nod
   pub counted : made' ≡ records_below n table (n - h)
   pub noted : row' ≡ overwritten row (cut_place h) (map (node n table (n - h)) (classes n table h))
   pub recorded : nodes' ≡ overwritten nodes (record_size * made) (flat_map record_numbers (records_at n table (n - suc h)))
-
--- An accepted table, rows for the classes of all its cuts, and a buffer with room for its records.
-pub record TableRoom (n : ℕ) (table : List ℤ) (class_row first_row count_row : List ℕ) (nodes : List ℤ) : Type 0 where
-  pub admitted : Accepted n table
-  pub class_places : length class_row ≡ cut_place (suc n)
-  pub first_places : length first_row ≡ cut_place (suc n)
-  pub count_places : length count_row ≡ suc n
-  pub room : node_room n ≤ length nodes
-
--- The same with the classes in the rows.
-pub record BuildReady (n : ℕ) (table : List ℤ) (class_row first_row count_row : List ℕ) (nodes : List ℤ) : Type 0 where
-  pub admitted : Accepted n table
-  pub numbered : class_row ≡ all_numbers n table
-  pub placed : first_row ≡ all_firsts n table
-  pub counts : count_row ≡ all_counts n table
-  pub room : node_room n ≤ length nodes
 
 -- What Build leaves: how many records there are, and their numbers in front.
 pub record AllRecorded (n : ℕ) (table nodes : List ℤ) (made : ℕ) (nodes' : List ℤ) : Type 0 where

@@ -1,5 +1,5 @@
 -- Run and Expand of an accepted image, and of one that is refused.
-use Rattle.std.specs.Prelude.{ℕ, ◌^◌, ◌≤◌, ◌<◌, ◌≡◌, refl, List, ◌++◌, map, ltb, eqb, length, ℤ}
+use Rattle.std.specs.Prelude.{Ok, Err, ℕ, ◌^◌, ◌≤◌, ◌<◌, ◌≡◌, refl, List, ◌++◌, map, ltb, eqb, length, ℤ}
 use Rattle.std.proofs.Common.{sym, ◌∙◌, append-nil, arith, drop_of_length-le, lt-ltb, le-ltb, eq-eqb, ne_eqb}
 use Rattle.std.proofs.Math.Path.{ap}
 use Rattle.std.proofs.lemmas.List.{length-map}
@@ -9,12 +9,13 @@ use Rattle.numbers.proofs.Laws.Answers.{map_refused}
 use Rattle.numbers.proofs.Laws.Lists.{length_range}
 use Rattle.image.specs.Cells.{Card}
 use Rattle.image.specs.Inner.Evaluation.{Accepted, card_read, values_to}
-use Rattle.image.specs.Run.{Expands, run_card, run, card_values, expand, expand_buffer, expanded}
+use Rattle.image.specs.Run.{Expands, run_card, run, card_values, expand, expand_buffer}
 use Rattle.image.specs.Reader.{reading}
 use Rattle.image.proofs.Laws.Evaluating.{is_card}
 use Rattle.image.proofs.Laws.Reading.{done}
 use Rattle.image.specs.declared.Command.{Command}
-use Rattle.image.specs.declared.Expanded.TheVariants as expanded_variants
+use Rattle.numbers.specs.Refusals.{number, answer_of}
+use Rattle.numbers.specs.declared.Refusal.{Refusal}
 
 -- ---- what a check says
 
@@ -71,17 +72,17 @@ module _ (image : List ℕ) where
   -- ---- the table buffer
 
   -- A refusal leaves it as it was.
-  pub expands_refused : (buffer : List ℤ) (k : ℕ) → expand image (length buffer) ≡ refused k → Expands image buffer (expanded_variants.Refused k) buffer
-  unfolding expanded expand_buffer
-  expands_refused buffer k h = record { answer = rw h; written = rw h }
+  pub expands_refused : (buffer : List ℤ) (r : Refusal) → expand image (length buffer) ≡ refused (number r) → Expands image buffer (Err r) buffer
+  unfolding answer_of expand_buffer
+  expands_refused buffer r h = record { answer = rw h; written = rw h }
 
 pub length_values : (card : Card) (count : ℕ) → length (values_to card count) ≡ count
 unfolding values_to
 length_values card count = length-map (numbers_from 0 count) (λ x. (run_card card x).value) ∙ length_range 0 count
 
 -- Else it holds Run's values.
-pub expands_table : (image : List ℕ) → Accepted image → (buffer after : List ℤ) → length buffer ≡ 2 ^ (card_read image).n → after ≡ values_to (card_read image) (length buffer) → Expands image buffer expanded_variants.Table after
-unfolding expanded expand_buffer
+pub expands_table : (image : List ℕ) → Accepted image → (buffer after : List ℤ) → length buffer ≡ 2 ^ (card_read image).n → after ≡ values_to (card_read image) (length buffer) → Expands image buffer (Ok tt) after
+unfolding answer_of expand_buffer
 expands_table image a buffer after room e =
     let h = expand_values image a (length buffer) room in
     record {

@@ -10,7 +10,6 @@ use Rattle.image.specs.Commands.{table_size, cell_size, word_size, card_of}
 use Rattle.image.specs.Reader.{most_classes, reading}
 use Rattle.image.specs.Run.{Result, group_value, run_card}
 use Rattle.image.specs.declared.Command.{Command}
-use Rattle.image.specs.declared.Evaluated.{Evaluated}
 use Rattle.image.specs.declared.Progress.{Progress}
 
 -- An image that is accepted, with its commands.
@@ -25,10 +24,6 @@ card_in (refused number) = card_of []
 
 unfoldable pub card_read : List ℕ → Card
 card_read image = card_in (reading image)
-
--- The paper's answer that an evaluation stands for.
-unfoldable pub result_of : Evaluated → Result
-result_of evaluated = record { value = evaluated.value; words = evaluated.words }
 
 -- What the cells so far gave.
 unfoldable pub result_so_far : Progress → Result

@@ -1,7 +1,8 @@
 -- The digits of a number, counted and then written from the lowest up.
-use Rattle.std.specs.Prelude.{ℕ, zero, suc, ◌+◌, ◌/◌, ◌%◌, ◌≤◌, ◌<◌, ◌≡◌, refl, List, [], ◌∷◌, ◌++◌, length, take, drop, set, pos}
+use Rattle.std.specs.Prelude.{ℕ, zero, suc, ◌+◌, ◌*◌, ◌/◌, ◌%◌, ◌^◌, Option, Some, None, IfSome, IfNone, MatchOption, ◌≤◌, ◌<◌, ◌≡◌, refl, List, [], ◌∷◌, ◌++◌, length, take, drop, set, pos}
 use Rattle.std.proofs.Math.Path.{sym, ap}
-use Rattle.std.proofs.Common.{◌∙◌, ap₂, append_assoc, add-one, arith, mod-eq_of_lt, length-append, drop_at, length-take-le}
+use Rattle.std.proofs.Math.Nat.{one-le-pow, pow-succ'}
+use Rattle.std.proofs.Common.{◌∙◌, ap₂, append_assoc, add-one, lit<, arith, mod-eq_of_lt, length-append, drop_at, length-take-le}
 use Rattle.std.proofs.Math.ListN.{length-set}
 use Rattle.std.proofs.lemmas.List.{set_split, take-set-le}
 use Rattle.numbers.specs.Lists.{overwritten}
@@ -9,7 +10,7 @@ use Rattle.numbers.proofs.Laws.Rows.{overwritten_none}
 use Rattle.lines.specs.Text.{decimal}
 use Rattle.lines.specs.Inner.Digits.{lowest_digits}
 use Rattle.lines.specs.Inner.Writing.{Writes}
-use Rattle.lines.proofs.Laws.Decimals.{by_digits, decimal_small, decimal_step}
+use Rattle.lines.proofs.Laws.Decimals.{by_digits, decimal_small, decimal_step, decimal_length}
 
 -- As many digits as are asked for.
 pub lowest_length : (count number : ℕ) → length (lowest_digits count number) ≡ count
@@ -51,6 +52,25 @@ counting_next number count rest large c =
 
 pub counting_ends : (number count rest : ℕ) → rest < 10 → Counting number count rest → count ≡ length (decimal (pos number))
 counting_ends number count rest small c = let one = ap length (decimal_small rest small) in let all = c.total in omega arith
+
+-- A number of 10^k and more has more than k digits.
+longer : (k number : ℕ) → 10 ^ k ≤ number → k < length (decimal (pos number))
+longer zero number l = by_digits (λ number. 0 < length (decimal (pos number))) (λ number small. rw (decimal_small number small) (omega arith)) (λ number large before. rw (decimal_step number large, length-append) (omega arith)) number
+longer (suc k) number l =
+    let some = one-le-pow k 10 (lit< tt) in
+    let next = pow-succ' 10 k in
+    let before = longer k (number / 10) (omega arith) in
+    rw (decimal_step number (omega arith), length-append) (omega arith)
+
+-- A number has one digit more than its logarithm, or one if it has none.
+pub logarithm_counts : (number count : ℕ) (log : Option ℕ) (Q : ℕ → Type 0) → ((k : ℕ) → Q k → count ≡ k + 1) → IfNone log (number ≡ 0) → IfSome log (λ k. 10 ^ k ≤ number) → IfSome log (λ k. number < 10 * 10 ^ k)
+    → MatchOption log (count ≡ 1) Q → count ≡ length (decimal (pos number))
+logarithm_counts number count None Q more none low high one = rw (none, decimal_small 0 (omega arith)) one
+logarithm_counts number count (Some k) Q more none low high q =
+    let one = more k q in
+    let least = longer k number low in
+    let most = decimal_length k number (rw (pow-succ' 10 k) high) in
+    omega arith
 
 -- ---- writing
 

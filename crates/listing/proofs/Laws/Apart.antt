@@ -1,9 +1,8 @@
 -- A table's text, taken apart into its lines.
-use Prim.Native.Nat.{ℕ, suc}
 use Rattle.std.specs.Prelude.{◌≡◌, refl, true, ℤ, pos}
-use Rattle.std.proofs.Common.{sym, ◌∙◌}
+use Rattle.std.proofs.Common.{sym, ◌∙◌, ℕ, suc, List, [], ◌∷◌, ◌++◌, map, append_assoc, append-nil}
+use mathlib.Core.List.{flat_map}
 use Rattle.std.proofs.Math.Path.{ap, ap₂}
-use mathlib.Core.List.{List, [], ◌∷◌, ◌++◌, map, flat_map, append_assoc, append-nil}
 use Rattle.numbers.specs.Lists.{every}
 use Rattle.numbers.proofs.Laws.Bools.{both, and_both}
 use Rattle.numbers.proofs.Laws.Selections.{flat_map_append}

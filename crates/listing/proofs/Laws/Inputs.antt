@@ -1,7 +1,7 @@
 -- The input of a table is read back.
 use Rattle.std.specs.Prelude.{ℕ, suc, ◌+◌, ◌*◌, ◌<◌, ◌≡◌, refl, true, leb, length, get_or, drop, ℤ, pos, negsuc, neg_ℤ}
-use Rattle.std.proofs.Common.{sym, ◌∙◌, ap₂, arith, leb-true, SFits}
-use mathlib.Core.List.{List, [], ◌∷◌, map, flat_map}
+use Rattle.std.proofs.Common.{sym, ◌∙◌, ap₂, arith, leb-true, SFits, List, [], ◌∷◌, map}
+use mathlib.Core.List.{flat_map}
 use Rattle.std.specs.Int.{w32}
 use Rattle.numbers.specs.Conditions.{Signed32}
 use Rattle.numbers.specs.Lists.{numbers_from, every}

@@ -1,31 +1,17 @@
--- What a known case of an answer says.
-use Rattle.std.specs.Prelude.{ℕ, ◌≤◌, ◌≡◌, true, List, ◌++◌, drop, leb}
-use Rattle.std.proofs.Common.{sym, ◌∙◌, take_at, le-leb}
-use Rattle.std.proofs.Math.Path.{ap, subst}
-use Rattle.std.proofs.Math.ListN.{length}
+-- What an answer says where the text has room.
+use Rattle.std.proofs.Common.{ℕ, ◌≤◌, ◌≡◌, sym, ◌∙◌, ap, true, List, ◌++◌, length, drop, take_at, leb, le-leb, Result, Ok, Err}
+use Rattle.std.specs.Result.{result_unwrap_or}
 use Rattle.listing.specs.Listing.{listing}
 use Rattle.listing.specs.Program.{text_room, list_answer, list_buffer, Lists}
 use Rattle.listing.proofs.Laws.Listed.{bytes_beyond}
-use Rattle.listing.specs.declared.Listed.{Listed}
-use Rattle.listing.specs.declared.Listed.TheVariants.{Text, TooShort}
-use Rattle.listing.specs.Kept.{kept_bytes}
-use Rattle.listing.specs.Kept.{ListsKept}
+use Rattle.listing.specs.declared.TooShort.{TooShort}
+use Rattle.listing.specs.Kept.{kept_bytes, ListsKept}
 
--- The length of an answered text.
-text_length : Listed → ℕ
-text_length (Text count) = count
-text_length TooShort = 0
-
--- An answer that is a text.
-IsText : Listed → Type 0
-IsText (Text count) = Unit {0}
-IsText TooShort = ⊥
-
-module _ (kept text : List ℕ) (answer : Listed) (text' : List ℕ) (lists : Lists kept text answer text') (room : text_room ≤ length text) where
+module _ (kept text : List ℕ) (answer : Result ℕ TooShort) (text' : List ℕ) (lists : Lists kept text answer text') (room : text_room ≤ length text) where
   enough : leb text_room (length text) ≡ true
   enough = le-leb text_room (length text) room
 
-  answered : answer ≡ Text (length (listing kept))
+  pub answered : answer ≡ Ok (length (listing kept))
   unfolding list_answer
   answered = lists.answered ∙ rw enough
 
@@ -34,13 +20,12 @@ module _ (kept text : List ℕ) (answer : Listed) (text' : List ℕ) (lists : Li
   left = lists.left ∙ rw enough
 
   -- Where the text has room, it is answered.
-  pub text_answered : answer ≡ TooShort → ⊥
-  unfolding IsText
-  text_answered short = subst IsText (sym answered ∙ short) tt
+  pub text_answered : (short : TooShort) → answer ≡ Err short → ⊥
+  text_answered short e = let c : ◌≡◌ {A = Result ℕ TooShort} (Ok (length (listing kept))) (Err short) = sym answered ∙ e in cc
 
   -- What the answered text says of every input of which these bytes are kept.
-  pub text_listed : (count : ℕ) → answer ≡ Text count → ListsKept kept text count text'
-  unfolding kept_bytes text_length
+  pub text_listed : (count : ℕ) → answer ≡ Ok count → ListsKept kept text count text'
+  unfolding kept_bytes
   text_listed count is = record {
     counted = counted;
     written = written;
@@ -48,7 +33,7 @@ module _ (kept text : List ℕ) (answer : Listed) (text' : List ℕ) (lists : Li
   }
     where
       counted : count ≡ length (listing kept)
-      counted = ap text_length (sym is ∙ answered)
+      counted = ap (λ result. result_unwrap_or result 0) (sym is ∙ answered)
 
       written : text' ≡ listing kept ++ drop count text
       written = left ∙ rw counted

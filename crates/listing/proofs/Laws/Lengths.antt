@@ -1,10 +1,9 @@
 -- How long the text is at most: every field is within ±16,777,215, so that with its space it takes at most 10 bytes.
 use Rattle.std.specs.Prelude.{ℕ, suc, ◌+◌, ◌*◌, ◌≤◌, ◌<◌, ◌≡◌, Bool, true, length, get_or, drop, ℤ, negsuc}
 use Rattle.std.proofs.Math.Path.{refl}
-use Rattle.std.proofs.Common.{sym, ◌∙◌, ap, pow_mono}
-use mathlib.Core.List.{List, [], ◌∷◌, ◌++◌, flat_map, append-nil}
+use Rattle.std.proofs.Common.{sym, ◌∙◌, ap, pow_mono, List, [], ◌∷◌, ◌++◌, append-nil, arith}
+use mathlib.Core.List.{flat_map}
 use Prim.Native.String.{String}
-use native.Mathlib.Omega.{arith}
 use Rattle.std.proofs.Math.ListN.{length-append}
 use Rattle.std.proofs.Math.IntN.{pos}
 use Rattle.numbers.specs.Answers.{Answer, accepted, refused}

@@ -1,11 +1,10 @@
 -- What is listed: the image always has room, so the answer is Plan's after the checks on the input's bytes.
-use Prim.Native.Nat.{ℕ, ◌+◌, ◌-◌, ◌*◌, ◌/◌, ◌^◌, ◌≤◌, ◌<◌}
 use Rattle.std.specs.Prelude.{◌≡◌, refl, ◌↔◌, Bool, true, false, List, [], ◌∷◌, length, take, leb, eqb, ℤ, pos}
-use Rattle.std.proofs.Common.{sym, ◌∙◌, arith, length-take-le, take_all, get_or-take, pow_mono}
+use Rattle.std.proofs.Common.{sym, ◌∙◌, arith, length-take-le, take_all, get_or-take, pow_mono, ℕ, ◌+◌, ◌-◌, ◌*◌, ◌/◌, ◌^◌, ◌≤◌, ◌<◌, leb-true, leb-false, le-leb, eqb-true, eq-eqb, ne_eqb}
+use Rattle.std.proofs.lemmas.Bool.{lt-leb}
 use Rattle.std.proofs.Math.Path.{ap}
 use Rattle.std.proofs.Math.ListN.{get_or}
 use Rattle.std.proofs.lemmas.List.{length-map}
-use borrow.Author.Tests.{leb-true, leb-false, le-leb, lt-leb, eqb-true, eqb-false, eq-eqb, ne_eqb}
 use Rattle.numbers.specs.Answers.{Answer, accepted, refused, unless, and_then}
 use Rattle.numbers.specs.Lists.{numbers_from, every}
 use Rattle.numbers.specs.Ranges.{most_variables, is_variables, is_limit, is_value}
@@ -144,26 +143,46 @@ module _ (input : List ℕ) where
 
 -- ---- the checks on an input's bytes
 
--- Their number is that of the listing's refusal, or 0 where the input has as many values as n asks for.
-pub data Checked (input : List ℕ) (number : ℕ) : Type 0 where
-  turned_away : (number ≡ 0 → ⊥) → listed input ≡ refused number → Checked input number
-  passed : number ≡ 0 → is_listed (get_or input 0 0) ≡ true → length input ≡ 2 + 4 * 2 ^ get_or input 0 0 → Checked input number
+module _ (input : List ℕ) where
+  abbrev counted : Bool
+  counted = eqb (length input) (2 + 4 * 2 ^ get_or input 0 0)
+
+  abbrev planned : Answer (List ℕ)
+  planned = plan (get_or input 0 0) (table_of input) (get_or input 1 0)
+
+  -- They come first, then Plan.
+  listed_checks : listed input ≡ and_then (input_refusal input) (λ t. planned)
+  unfolding input_refusal
+  listed_checks =
+      listed_plan_lem input
+      ∙ yes_or_no (leb 2 (length input))
+      (λ two. yes_or_no (is_listed (get_or input 0 0)) (λ inside. yes_or_no counted (λ same. rw (two, inside, same)) (λ other. rw (two, inside, other))) (λ outside. rw (two, outside)))
+      (λ short. rw short)
+
+  -- Their refusal is the listing's.
+  pub check_refused : (k : ℕ) → input_refusal input ≡ refused k → listed input ≡ refused k
+  check_refused k e = listed_checks ∙ ap (λ answer. and_then answer (λ t. planned)) e
+
+  -- An input that passes them has as many values as n asks for.
+  pub check_passed : input_refusal input ≡ accepted tt → (is_listed (get_or input 0 0) ≡ true) × (length input ≡ 2 + 4 * 2 ^ get_or input 0 0)
+  unfolding input_refusal
+  check_passed e =
+      let two = unless_accepted (leb 2 (length input)) 2 (unless (is_listed (get_or input 0 0)) 1 (unless counted 2 (accepted tt))) tt e in
+      let inside = unless_accepted (is_listed (get_or input 0 0)) 1 (unless counted 2 (accepted tt)) tt two.1 in
+      let same = unless_accepted counted 2 (accepted tt) tt inside.1 in
+      (inside.0, eqb-true (length input) (2 + 4 * 2 ^ get_or input 0 0) same.0)
+
+-- Their answer is the listing's refusal, or the input has as many values as n asks for.
+pub data Checked (input : List ℕ) (answer : Answer Unit) : Type 0 where
+  turned_away : (k : ℕ) → answer ≡ refused k → listed input ≡ refused k → Checked input answer
+  passed : answer ≡ accepted tt → is_listed (get_or input 0 0) ≡ true → length input ≡ 2 + 4 * 2 ^ get_or input 0 0 → Checked input answer
 
 pub checked : (input : List ℕ) → Checked input (input_refusal input)
-unfolding input_refusal
-checked input =
-    yes_or_no (leb 2 (length input))
-    (λ e.
-    let two = leb-true 2 (length input) e in
-    rw e
-    (yes_or_no (is_listed (get_or input 0 0))
-    (λ inside.
-    rw inside
-    (yes_or_no (eqb (length input) (2 + 4 * 2 ^ get_or input 0 0))
-    (λ same. rw same (passed refl inside (eqb-true (length input) (2 + 4 * 2 ^ get_or input 0 0) same)))
-    (λ other. rw other (turned_away (λ z. omega arith) (listed_miscounted input two inside (eqb-false (length input) (2 + 4 * 2 ^ get_or input 0 0) other))))))
-    (λ outside. rw outside (turned_away (λ z. omega arith) (listed_outside input two outside)))))
-    (λ e. rw e (turned_away (λ z. omega arith) (listed_under_two input (leb-false 2 (length input) e))))
+checked input = by_answer (input_refusal input) refl
+  where
+    by_answer : (answer : Answer Unit) → input_refusal input ≡ answer → Checked input (input_refusal input)
+    by_answer (accepted t) e = let p = check_passed input e in passed e p.0 p.1
+    by_answer (refused k) e = turned_away k e (check_refused input k e)
 
 -- ---- the longest input
 

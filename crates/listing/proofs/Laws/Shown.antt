@@ -1,7 +1,7 @@
 -- What the line of a record shows, where a buffer holds the record.
 use Rattle.std.specs.Prelude.{ℕ, suc, ◌+◌, ◌-◌, ◌*◌, ◌≡◌, get_or, drop, ℤ, pos}
-use Rattle.std.proofs.Common.{sym, ◌∙◌, ap, arith, get_or-drop, drop-drop}
-use mathlib.Core.List.{List, [], ◌∷◌, ◌++◌, flat_map}
+use Rattle.std.proofs.Common.{sym, ◌∙◌, ap, arith, get_or-drop, drop-drop, List, [], ◌∷◌, ◌++◌}
+use mathlib.Core.List.{flat_map}
 use Rattle.diagram.specs.Records.{Record, record_numbers, record_size}
 use Rattle.diagram.specs.Walk.{number_at, variable_at, low_at, high_at, weight_at}
 use Rattle.listing.specs.Listing.{shown_numbers}

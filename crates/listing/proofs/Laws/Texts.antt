@@ -1,15 +1,16 @@
 -- The text of a table, from what Build's buffer and Plan's arrays hold.
-use Rattle.std.specs.Prelude.{ℕ, zero, suc, ◌+◌, ◌-◌, ◌*◌, ◌^◌, ◌≤◌, ◌<◌, ◌≡◌, refl, get_or, drop, ℤ}
+use Rattle.std.specs.Prelude.{ℕ, zero, suc, ◌+◌, ◌-◌, ◌*◌, ◌^◌, ◌≤◌, ◌<◌, ◌≡◌, refl, get_or, take, drop, ℤ, Result, Ok, Err}
 use Rattle.std.proofs.Math.Path.{sym, ap, ap₂}
-use Rattle.std.proofs.Common.{◌∙◌, subst, add-one, get_or-take}
-use mathlib.Core.List.{List, [], ◌∷◌, ◌++◌, flat_map, append_assoc}
-use native.Mathlib.Omega.{arith}
+use Rattle.std.proofs.Common.{◌∙◌, subst, add-one, get_or-take, length-take-le, take_all, List, [], ◌∷◌, ◌++◌, append_assoc, arith}
+use mathlib.Core.List.{flat_map}
 use Rattle.std.proofs.Math.ListN.{length, length-append}
 use Rattle.std.proofs.Math.Pow.{pow_mono}
 use Rattle.std.proofs.Math.IntN.{pos}
 use Rattle.numbers.specs.Lists.{numbers_from, every, sum_of}
 use Rattle.numbers.specs.Ranges.{widest_address}
 use Rattle.numbers.specs.Answers.{Answer, accepted, refused}
+use Rattle.numbers.specs.Refusals.{number, answer_of}
+use Rattle.numbers.specs.declared.Refusal.{Refusal}
 use Rattle.numbers.proofs.Laws.Answers.{not_refused}
 use Rattle.diagram.specs.Accepted.{Accepted, written}
 use Rattle.diagram.specs.Records.{Record, records, record_numbers, record_size, offset, node_count}
@@ -17,15 +18,14 @@ use Rattle.diagram.specs.Build.{node_room, Summary, summary_of, built, Builds}
 use Rattle.diagram.proofs.Laws.Builds.{build_answered, build_left}
 use Rattle.diagram.proofs.Laws.Numbering.{written_length, records_room}
 use Rattle.diagram.specs.declared.Built.{Built}
-use Rattle.diagram.specs.declared.Built.TheVariants.{Diagram, Refused}
 use Rattle.diagram.specs.Walk.{record_count}
 use Rattle.image.specs.Cells.{total_bits}
 use Rattle.image.specs.Reader.{most_classes}
 use Rattle.cascade.specs.Cascade.{cell_of, cells_from}
 use Rattle.cascade.specs.Groupings.{cost}
 use Rattle.cascade.specs.Plan.{plan_cell, plan_cells, no_cell, Plans}
+use Rattle.cascade.specs.declared.Grouping.{Grouping}
 use Rattle.cascade.specs.declared.Planned.{Planned}
-use Rattle.cascade.specs.declared.Verdict.TheVariants.{Grouping}
 use Rattle.cascade.specs.declared.Cell.{Cell as PlanCell}
 use Rattle.cascade.proofs.Laws.Cards.{grouping_sum}
 use Rattle.cascade.proofs.Laws.Cells.{variables_most, cell_address, cell_incoming, cell_outgoing, cell_width_most, cell_bits_most}
@@ -66,20 +66,20 @@ unfolding node_room record_size most_listed
 most_nodes n few = let most = pow_mono {i = n} {j = 11} few in omega arith
 
 -- What Build answers and leaves for an accepted table, where its buffer has room.
-module _ (n : ℕ) (table buffer nodes : List ℤ) (answer : Built) (a : Accepted n table) (room : node_room n ≤ length buffer) (b : Builds n table buffer answer nodes) where
+module _ (n : ℕ) (table buffer nodes : List ℤ) (answer : Result Built Refusal) (a : Accepted n table) (room : node_room n ≤ length buffer) (b : Builds n table buffer answer nodes) where
   accepts : built answer ≡ accepted (summary_of n table)
   accepts = b.answered ∙ build_answered n table (length buffer) a room
 
   -- It does not refuse.
-  pub never_refused : (k : ℕ) → answer ≡ Refused k → ⊥
-  unfolding built
-  never_refused k e = not_refused (summary_of n table) k (sym accepts ∙ ap built e)
+  pub never_refused : (r : Refusal) → answer ≡ Err r → ⊥
+  unfolding built answer_of
+  never_refused r e = not_refused (summary_of n table) (number r) (sym accepts ∙ ap built e)
 
   -- It answers the node count and the offset.
-  pub summary_is : (count : ℕ) (start : ℤ) → answer ≡ Diagram count start → (count ≡ suc (length (records n table))) × (start ≡ offset table)
-  unfolding built node_count
-  summary_is count start e =
-      let same : accepted (record { nodes = count; table_offset = start }) ≡ accepted (summary_of n table) = sym (ap built e) ∙ accepts in (
+  pub summary_is : (found : Built) → answer ≡ Ok found → (found.nodes ≡ suc (length (records n table))) × (found.offset ≡ offset table)
+  unfolding built answer_of node_count
+  summary_is found e =
+      let same : accepted (record { nodes = found.nodes; table_offset = found.offset }) ≡ accepted (summary_of n table) = sym (ap built e) ∙ accepts in (
         ap (λ (s : Answer Summary). elim s [ accepted s ↦ s.nodes | refused k ↦ 0 ]) same,
         ap (λ (s : Answer Summary). elim s [ accepted s ↦ s.table_offset | refused k ↦ pos 0 ]) same,
       )
@@ -131,6 +131,21 @@ module _ {n : ℕ} {table : List ℤ} {sizes : List ℕ} {cells : List PlanCell}
         small = λ k l. subst (λ (cell : PlanCell). CellSmall cell) (sym (ap (λ c. get_or c k no_cell) (front a p)) ∙ get_or-take count cells k no_cell l) (small_from n table a 0 sizes (omega (arith, grouping_sum n sizes p.grouping)) k (let c = p.counted in omega arith));
       }
 
+  -- So can they alone, and their text is the same.
+  pub front_small : CellsSmall (take count cells) (length (take count cells))
+  front_small =
+      let small = planned_small in
+      let l = length-take-le count cells small.inside in
+      record {
+        few = let f = small.few in omega arith;
+        inside = omega arith;
+        small = λ k inside. subst (λ (cell : PlanCell). CellSmall cell) (sym (get_or-take count cells k no_cell (omega arith))) (small.small k (omega arith));
+      }
+
+  pub front_text : cascade_text (take count cells) (length (take count cells)) bits ≡ cascade_text cells count bits
+  unfolding cascade_text plan_lines
+  front_text = ap (λ row. flat_map plan_line row ++ line "bits" (pos bits ∷ [])) (take_all (length (take count cells)) (take count cells) (omega arith))
+
   -- So can their bits.
   pub bits_small : bits < 2 ^ 31
   bits_small = let t = p.total in let m = cost_most n table a sizes p.grouping in omega arith
@@ -153,15 +168,15 @@ module _ {n : ℕ} {table : List ℤ} {sizes : List ℕ} {cells : List PlanCell}
 
 -- ---- from Plan's promise
 
--- A plan with a grouping: where the table is listed, its text can be written into a buffer that holds every text.
-pub text_ready : (n : ℕ) (table : List ℤ) (limit : ℕ) (p : Planned) (count bits : ℕ) (text : List ℕ) → n ≤ most_listed → Plans n table limit p → p.verdict ≡ Grouping count bits → text_room ≤ length text → TextReady n table p.cells count bits text
-text_ready n table limit p count bits text few plans e room =
-    let chosen = plan_chosen n table limit p plans count bits e in
-    let admitted = plan_accepts n table limit p plans count bits e in
+-- A verdict with a grouping: where the table is listed, its text can be written into a buffer that holds every text.
+pub text_ready : (n : ℕ) (table : List ℤ) (limit : ℕ) (p : Planned) (g : Grouping) (text : List ℕ) → n ≤ most_listed → Plans n table limit p → p.verdict ≡ Ok g → text_room ≤ length text → TextReady n table p.cells g.cells g.bits text
+text_ready n table limit p g text few plans e room =
+    let chosen = plan_chosen n table limit p plans g e in
+    let admitted = plan_accepts n table limit p plans g e in
     record {
       few = few;
       admitted = admitted;
-      planned = subst (λ (sizes : List ℕ). PlannedAs n table sizes p.cells count bits) (sym (groups_are admitted chosen.planned)) chosen.planned;
+      planned = subst (λ (sizes : List ℕ). PlannedAs n table sizes p.cells g.cells g.bits) (sym (groups_are admitted chosen.planned)) chosen.planned;
       room = room;
     }
 

@@ -1,12 +1,9 @@
 -- `listing::list` meets its contract, by the length of its buffer.
-use mathlib.Core.Path.{◌∙◌, ap}
-use native.Mathlib.Nat.{zero-add}
-use lib.ListN.{length}
-use borrow.Author.Tests.{le-leb, lt-leb}
+use Rattle.std.proofs.Common.{◌∙◌, ap, length, zero-add, Ok}
+use Rattle.std.proofs.lemmas.Bool.{le-leb, lt-leb}
 use Rattle.numbers.proofs.Laws.Rows.{overwritten_front}
 use Rattle.listing.specs.Listing.{listing}
 use Rattle.listing.specs.Program.{text_room, list_answer, list_buffer}
-use Rattle.listing.specs.declared.Listed.TheVariants.{Text}
 use Rattle.listing.proofs.list.Goals as goal
 
 pub returns-then-text-lt-TEXT_ROOM : goal.returns-then-text-lt-TEXT_ROOM
@@ -25,4 +22,4 @@ returns c =
     let text = listing c.args.input.now in
     let w = c.list_input.ensures in
     let enough = le-leb 113248 (length c.args.text.now) c.if-text-lt-TEXT_ROOM.false in
-    record { answered = rw enough (ap Text (w.behind ∙ zero-add (length text))); left = rw enough (w.written ∙ overwritten_front c.args.text.now text) }
+    record { answered = rw enough (ap Ok (w.behind ∙ zero-add (length text))); left = rw enough (w.written ∙ overwritten_front c.args.text.now text) }

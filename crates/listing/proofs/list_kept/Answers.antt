@@ -1,19 +1,15 @@
 -- `listing::list_kept` meets its contract: its text has room for every listing.
-use Prim.Native.Nat.{◌≤◌}
-use native.Mathlib.Omega.{arith}
-use lib.ListN.{length}
+use Rattle.std.proofs.Common.{◌≤◌, sym, ◌∙◌, ap, length, arith, Ok}
+use Rattle.std.specs.Result.{result_unwrap_or}
 use Rattle.listing.specs.Program.{text_room}
-use Rattle.listing.proofs.Laws.Kept.{text_answered, text_listed}
+use Rattle.listing.proofs.Laws.Kept.{answered, text_listed}
 use Rattle.listing.proofs.list_kept.Goals as goal
-use Rattle.listing.proofs.list_kept.Goals.{After-list}
 
-module _ (c : After-list) where
-  room : text_room ≤ length c.args.text.now
-  unfolding text_room
-  room = omega arith
-
-pub returns-in-Text : goal.returns-in-Text
-returns-in-Text c = let l = (goal.at.returns-in-Text c).After-list in text_listed c.args.kept.now c.args.text.now l.list.result _ l.list.ensures (room l) _ c.in-Text.is
-
-pub returns-in-TooShort : goal.returns-in-TooShort
-returns-in-TooShort c = let l = (goal.at.returns-in-TooShort c).After-list in absurd (text_answered c.args.kept.now c.args.text.now l.list.result _ l.list.ensures (room l) c.in-TooShort.is)
+pub returns : goal.returns
+unfolding text_room
+returns c =
+    let a = c.args in
+    let room : 113248 ≤ length a.text.now = omega arith in
+    let is = answered a.kept.now a.text.now c.list.result _ c.list.ensures room in
+    let count = c.unwrap_or.ensures ∙ ap (λ result. result_unwrap_or result 0) is in
+    text_listed a.kept.now a.text.now c.list.result _ c.list.ensures room c.unwrap_or.result (is ∙ ap Ok (sym count))

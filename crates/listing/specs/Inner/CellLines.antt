@@ -1,6 +1,6 @@
 -- The lines of a cascade, from what Plan's arrays hold.
-use Rattle.std.specs.Prelude.{ℕ, ◌^◌, ◌≤◌, ◌<◌, length, get_or, take, pos}
-use mathlib.Core.List.{List, [], ◌∷◌, ◌++◌, flat_map}
+use Rattle.std.specs.Prelude.{ℕ, ◌^◌, ◌≤◌, ◌<◌, length, get_or, take, pos, List, [], ◌∷◌, ◌++◌}
+use mathlib.Core.List.{flat_map}
 use Rattle.cascade.specs.Plan.{no_cell}
 use Rattle.cascade.specs.declared.Cell.{Cell as PlanCell}
 use Rattle.lines.specs.Text.{line}

@@ -1,5 +1,6 @@
 -- What listing starts from and leaves: a buffer that holds every text, and a table with its planned cells.
-use Rattle.std.specs.Prelude.{ℕ, ◌+◌, ◌*◌, ◌^◌, ◌≤◌, ◌≡◌, true, cond, List, length, get_or, leb, eqb, ℤ}
+use Rattle.std.specs.Prelude.{ℕ, ◌+◌, ◌*◌, ◌^◌, ◌≤◌, ◌≡◌, true, List, length, get_or, leb, eqb, ℤ}
+use Rattle.numbers.specs.Answers.{Answer, accepted, unless}
 use Rattle.diagram.specs.Accepted.{Accepted}
 use Rattle.cascade.specs.declared.Cell.{Cell}
 use Rattle.cascade.specs.Inner.Planned.{groups, PlannedAs}
@@ -13,9 +14,13 @@ pub record TextReady (n : ℕ) (table : List ℤ) (cells : List Cell) (count bit
   pub planned : PlannedAs n table (groups cells count) cells count bits
   pub room : text_room ≤ length text
 
--- The number of an input's refusal by the checks on its bytes, in their order; 0 where it passes them.
-unfoldable pub input_refusal : List ℕ → ℕ
-input_refusal input = cond (leb 2 (length input)) (cond (is_listed (get_or input 0 0)) (cond (eqb (length input) (2 + 4 * 2 ^ get_or input 0 0)) 0 2) 1) 2
+-- An input's refusal by the checks on its bytes, in their order; accepted where it has as many values as n asks for.
+unfoldable pub input_refusal : List ℕ → Answer Unit
+input_refusal input =
+    unless (leb 2 (length input)) 2
+    (unless (is_listed (get_or input 0 0)) 1
+    (unless (eqb (length input) (2 + 4 * 2 ^ get_or input 0 0)) 2
+    (accepted tt)))
 
 -- An input with as many values as n asks for, and a buffer that holds every text.
 pub record InputCounted (input text : List ℕ) : Type 0 where

@@ -1,6 +1,6 @@
 -- The lines of a diagram, from what Build's buffer holds.
-use Rattle.std.specs.Prelude.{ℕ, ◌+◌, ◌^◌, ◌≤◌, ◌<◌, ℤ, pos}
-use mathlib.Core.List.{List, [], ◌∷◌, ◌++◌, flat_map}
+use Rattle.std.specs.Prelude.{ℕ, ◌+◌, ◌^◌, ◌≤◌, ◌<◌, ℤ, pos, List, [], ◌∷◌, ◌++◌}
+use mathlib.Core.List.{flat_map}
 use Rattle.numbers.specs.Lists.{numbers_from}
 use Rattle.diagram.specs.Walk.{variable_at, low_at, high_at, weight_at, record_count}
 use Rattle.lines.specs.Text.{line}

@@ -1,5 +1,6 @@
 -- Laws of the list definitions: runs of numbers, tests over lists.
-use Rattle.std.specs.Prelude.{ℕ, zero, suc, ◌+◌, ◌-◌, ◌<◌, ◌≡◌, refl, Bool, true, false, List, [], ◌∷◌, ◌++◌, map, length, get_or, take, drop}
+use Rattle.std.specs.List.{list_all}
+use Rattle.std.specs.Prelude.{ℕ, zero, suc, ◌+◌, ◌-◌, ◌<◌, ◌≡◌, refl, Bool, true, false, ◌&&◌, List, [], ◌∷◌, ◌++◌, map, length, get_or, take, drop}
 use Rattle.std.proofs.Common.{sym, ◌∙◌, ap, ap₂, true≢false, add-zero, add-suc, suc-add, arith}
 use Rattle.std.proofs.Math.Seq.{take-nil, drop-nil}
 use Rattle.numbers.specs.Lists.{numbers_from, every}
@@ -84,3 +85,9 @@ map_map f g (x ∷ l) = ap (λ m. g (f x) ∷ m) (map_map f g l)
 pub map_same : {A B : Type 0} (f g : A → B) (l : List A) → ((a : A) → f a ≡ g a) → map f l ≡ map g l
 map_same f g [] h = refl
 map_same f g (x ∷ l) h = ap₂ (λ b m. b ∷ m) (h x) (map_same f g l h)
+
+-- The library's word for every element's passing.
+pub every_all : {A : Type 0} (test : A → Bool) (l : List A) → every test l ≡ list_all test l
+unfolding every
+every_all test [] = refl
+every_all test (a ∷ l) = ap (λ b. test a && b) (every_all test l)

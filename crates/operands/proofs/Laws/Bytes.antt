@@ -6,7 +6,7 @@ use Rattle.std.proofs.Math.Nat.{one-le-pow, pow-succ', mul-add-div_right, mul-ad
 use Rattle.std.proofs.Math.Decide.{dec_lt}
 use Rattle.std.proofs.Math.ListN.{take, drop, take-append-drop, get_or-eq_default}
 use Rattle.std.proofs.Math.Seq.{drop_at}
-use mir.Syntax.{w32}
+use Rattle.std.specs.Int.{w32, bytes_high_first}
 use Rattle.std.proofs.Math.Facts.{Fits-of_z, to_z-of_z, of_z-to_z, Fits-of_lt}
 use Rattle.operands.specs.Bytes.{AreBytes, big_endian, signed_bytes, number, unsigned_at, signed_at}
 
@@ -56,6 +56,24 @@ lower_bytes (suc k) y r =
     (ap₂ (λ d l. d ∷ l)
     (ap (λ n. n % 256) (mul-add-div_right (power_some k) (y * 256) r) ∙ mul-add-mod_self_right y 256 (r / 256 ^ k))
     (lower_bytes k (y * 256) r))
+
+-- ---- the bytes of the library's methods
+
+-- Those of a number.
+pub same_bytes : (k v : ℕ) → bytes_high_first k v ≡ big_endian k v
+unfolding big_endian
+same_bytes zero v = refl
+same_bytes (suc zero) v = ap (λ b. b ∷ []) (let e : v % 256 ≡ v / 1 % 256 = omega arith in e)
+same_bytes (suc (suc k)) v = ap (λ l. v / 256 ^ suc k % 256 ∷ l) (same_bytes (suc k) v)
+
+-- Those of a number's lower digits.
+pub written_part : (k v : ℕ) → bytes_high_first k (v % 256 ^ k) ≡ big_endian k v
+written_part k v =
+    same_bytes k (v % 256 ^ k)
+    ∙ sym (lower_bytes k (v / 256 ^ k) (v % 256 ^ k))
+    ∙ ap (big_endian k) (div-add-mod' v (256 ^ k))
+
+-- ---- numbers of bytes
 
 number_small : (l : List ℕ) → AreBytes l → number l < 256 ^ length l
 unfolding AreBytes number

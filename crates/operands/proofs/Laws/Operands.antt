@@ -25,6 +25,26 @@ module _ (image : List ℕ) (at : ℕ) where
       ap (λ l. number (take 2 l)) (byte_here (omega arith) ∙ ap (λ l. get_or image at 0 ∷ l) (drop-cons image (at + 1) 0 (omega arith)))
       ∙ (let e : get_or image at 0 * 256 + (get_or image (at + 1) 0 * 1 + 0) ≡ get_or image at 0 * 256 + get_or image (at + 1) 0 = omega arith in e)
 
+  pub four_by_bytes : at + 4 ≤ length image → unsigned_at image at 4 ≡ get_or image at 0 * 16777216 + get_or image (at + 1) 0 * 65536 + get_or image (at + 2) 0 * 256 + get_or image (at + 3) 0
+  unfolding unsigned_at number
+  four_by_bytes h =
+      ap (λ l. number (take 4 l))
+      (byte_here (omega arith)
+      ∙ ap (λ l. get_or image at 0 ∷ l)
+      (drop-cons image (at + 1) 0 (omega arith)
+      ∙ ap (λ l. get_or image (at + 1) 0 ∷ l)
+      (drop-cons image (suc (at + 1)) 0 (omega arith)
+      ∙ ap (λ l. get_or image (suc (at + 1)) 0 ∷ l) (drop-cons image (suc (suc (at + 1))) 0 (omega arith)))))
+      ∙ (let a = get_or image at 0 in
+      let b = get_or image (at + 1) 0 in
+      let second : suc (at + 1) ≡ at + 2 = omega arith in
+      let third : suc (suc (at + 1)) ≡ at + 3 = omega arith in
+      ap₂ (λ c d. a * 16777216 + (b * 65536 + (c * 256 + (d * 1 + 0)))) (ap (λ k. get_or image k 0) second) (ap (λ k. get_or image k 0) third)
+      ∙ (let c = get_or image (at + 2) 0 in
+      let d = get_or image (at + 3) 0 in
+      let e : a * 16777216 + (b * 65536 + (c * 256 + (d * 1 + 0))) ≡ a * 16777216 + b * 65536 + c * 256 + d = omega arith in
+      e))
+
 pub unsigned_four : (image : List ℕ) (at : ℕ) → at + 4 ≤ length image → unsigned_at image at 4 ≡ unsigned_at image at 2 * 65536 + unsigned_at image (at + 2) 2
 unfolding unsigned_at number
 unsigned_four image at h =

@@ -1,16 +1,9 @@
 -- `operands::read_four` meets its contract.
-use Prim.Native.Nat.{◌+◌, ◌*◌}
-use mathlib.Core.Path.{sym, ◌∙◌, ap₂}
-use native.Mathlib.Omega.{arith}
-use Rattle.operands.proofs.Laws.Operands.{unsigned_four}
+use Rattle.std.proofs.Common.{sym, ◌∙◌}
+use Rattle.operands.proofs.Laws.Operands.{four_by_bytes}
 use Rattle.operands.proofs.read_four.Goals as goal
 
 pub returns : goal.returns
 returns c =
     let a = c.args in
-    let low = c.read_two-2.ensures in
-    let high = c.read_two.ensures in
-    record {
-      read = ap₂ (λ x y. x * 65536 + y) high.read low.read ∙ sym (unsigned_four a.image.now a.at c.requires);
-      small = omega arith;
-    }
+    record { read = c.from_be_bytes.ensures ∙ sym (four_by_bytes a.image.now a.at c.requires); small = c.from_be_bytes.type_inv }

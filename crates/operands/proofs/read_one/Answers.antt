@@ -1,11 +1,7 @@
 -- `operands::read_one` meets its contract.
-use mathlib.Core.Path.{sym, ◌∙◌}
-use native.Mathlib.Omega.{arith}
+use Rattle.std.proofs.Common.{sym, ◌∙◌}
 use Rattle.operands.proofs.Laws.Operands.{unsigned_one}
 use Rattle.operands.proofs.read_one.Goals as goal
-
-pub byte-requires : goal.byte-requires
-byte-requires c = omega arith
 
 pub returns : goal.returns
 returns c =

@@ -1,23 +1,13 @@
--- `operands::read_signed` meets its contract: bits of the upper half stand for a negative number.
-use mathlib.Core.Path.{◌∙◌, ap}
-use mir.Syntax.{w32}
-use mir.Val.{to_z}
-use mir.Facts.{to_z-of_z}
+-- `operands::read_signed` meets its contract.
+use Rattle.std.proofs.Common.{sym, ◌∙◌, ap, to_z}
+use Rattle.std.proofs.Math.Facts.{to_z-of_z}
+use Rattle.std.specs.Int.{w32}
 use Rattle.operands.specs.Bytes.{signed_at}
-use Rattle.operands.proofs.Laws.Operands.{signed_upper, signed_upper_fits}
+use Rattle.operands.proofs.Laws.Operands.{four_by_bytes}
 use Rattle.operands.proofs.read_signed.Goals as goal
-
-pub returns-then-bits-lt2147483648 : goal.returns-then-bits-lt2147483648
-unfolding signed_at
-returns-then-bits-lt2147483648 c = ap (to_z w32) c.read_four-bits.ensures.read
-
-pub overflow_sub-result-2 : goal.overflow_sub-result-2
-overflow_sub-result-2 c = signed_upper_fits c.read_four-bits.result c.if-bits-lt2147483648.false c.read_four-bits.ensures.small
 
 pub returns : goal.returns
 unfolding signed_at
 returns c =
-    let bits = c.read_four-bits.result in
-    let upper = c.if-bits-lt2147483648.false in
-    let small = c.read_four-bits.ensures.small in
-    to_z-of_z (signed_upper_fits bits upper small) ∙ signed_upper bits upper small ∙ ap (to_z w32) c.read_four-bits.ensures.read
+    let a = c.args in
+    to_z-of_z {w = w32} (record { sfits = c.from_be_bytes.type_inv }) ∙ c.from_be_bytes.ensures ∙ ap (to_z w32) (sym (four_by_bytes a.image.now a.at c.requires))

@@ -4,15 +4,17 @@ use Rattle.std.proofs.Common.{sym, ◌∙◌, subst, arith}
 use Rattle.std.proofs.Math.Path.{ap}
 use Rattle.std.proofs.lemmas.Bool.{false≢true}
 use Rattle.numbers.specs.Answers.{Answer, accepted, refused, unless, and_then}
-use Rattle.numbers.proofs.Laws.Answers.{not_refused}
+use Rattle.numbers.proofs.Laws.Answers.{not_refused, map_refused}
 use Rattle.numbers.proofs.Laws.Bools.{yes_or_no}
 use Rattle.numbers.proofs.Laws.Tests.{le_test, lt_test, and_test}
 use Rattle.numbers.specs.Conditions.{Variables, TableValue}
 use Rattle.image.specs.Commands.{command_bytes, card_of}
 use Rattle.image.specs.Reader.{step, start, reading, reading_for}
 use Rattle.image.specs.Run.{Result, run, run_card}
+use Rattle.image.specs.Inner.Evaluation.{Accepted}
+use Rattle.image.proofs.Laws.Reading.{done}
 use Rattle.image.proofs.Laws.ReadingFor.{reading_first_refused, first_refused, other_n, own_n, for_accepted, for_number}
-use Rattle.image.proofs.Laws.Running.{run_refused}
+use Rattle.image.proofs.Laws.Running.{done_accepted, run_refused}
 use Rattle.image.proofs.Laws.Words.{card_words, run_of_card}
 use Rattle.image.specs.declared.Command.{Command}
 use Rattle.image.specs.declared.Command.TheVariants.{Table}
@@ -64,6 +66,25 @@ module _ (m : ℕ) (image : List ℕ) (x y : ℕ) where
 
       pub pair_answers : is_pair m x y ≡ true → pair_run m image x y ≡ accepted (run_card (card_of commands) (pair_index m x y))
       pair_answers p = pair_run_lem p ∙ run_answers p
+
+  -- By what a check of the image for n = 2m says.
+  module _ (b : is_pair_bits m ≡ true) where
+    pub check_refuses : (k : ℕ) → done (reading_for (2 * m) image) ≡ refused k → pair_run m image x y ≡ refused k
+    unfolding done
+    check_refuses k h = image_refused b k (map_refused (λ commands. tt) (reading_for (2 * m) image) k h)
+
+    module _ (h : done (reading_for (2 * m) image) ≡ accepted tt) where
+      commands_read : (commands : List Command) × (reading_for (2 * m) image ≡ accepted commands)
+      commands_read = done_accepted (reading_for (2 * m) image) h
+
+      pub check_accepts : Accepted image
+      check_accepts = let r = commands_read in record { commands = r.0; read = ((for_accepted (2 * m) image r.0).1 r.1).0 }
+
+      pub checked_refused : is_pair m x y ≡ false → pair_run m image x y ≡ refused 17
+      checked_refused p = pair_refused b commands_read.0 commands_read.1 p
+
+      pub checked_run : is_pair m x y ≡ true → pair_run m image x y ≡ run image (pair_index m x y)
+      checked_run p = pair_run_lem b commands_read.0 commands_read.1 p
 
   -- ---- by cases
 

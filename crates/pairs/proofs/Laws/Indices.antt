@@ -1,9 +1,8 @@
 -- The index of a pair: below 2^(2m), one for each pair, and every number below 2^(2m) is one.
 use Rattle.std.specs.Prelude.{ℕ, ◌+◌, ◌-◌, ◌*◌, ◌/◌, ◌%◌, ◌^◌, ◌≤◌, ◌<◌, ◌≡◌}
-use Rattle.std.proofs.Common.{sym, ◌∙◌, subst, mul_comm, mod-lt, div-add-mod', div-lt_iff_lt-mul, pow_pos}
+use Rattle.std.proofs.Common.{sym, ◌∙◌, subst, mul_comm, mod-lt, div-add-mod', div-lt_iff_lt-mul, pow_pos, arith}
 use Rattle.std.proofs.Math.Path.{ap}
 use Rattle.std.proofs.Math.Nat.{add-zero, mod-eq_of_lt, div-eq_of_lt, mul-add-div, mul-add-mod_self_left}
-use native.Mathlib.Omega.{arith}
 use Rattle.std.proofs.Math.Pow.{pow_mono}
 use Rattle.numbers.proofs.Laws.Powers.{power_split, part_room}
 use Rattle.pairs.specs.Pairs.{pair_index}

@@ -13,6 +13,7 @@ use Rattle.numbers.specs.Extremes.{lowest, highest}
 use Rattle.numbers.proofs.Laws.Extremes.{lowest_snoc, highest_snoc, width_by_extremes}
 use Rattle.numbers.proofs.Laws.Lists.{map_append}
 use Rattle.numbers.proofs.Laws.Powers.{part_room}
+use Rattle.numbers.proofs.Laws.Widths.{rail_width_least}
 use Rattle.blocks.specs.Classes.{class_count, rail_at}
 use Rattle.blocks.specs.Rows.{cut_place, all_counts}
 use Rattle.blocks.proofs.Laws.Classes.{class_count_le}
@@ -26,12 +27,13 @@ use Rattle.cascade.specs.Cascade.{words_of, cell_of}
 use Rattle.cascade.specs.Groupings.{address_width}
 use Rattle.cascade.specs.Inner.Choices.{cell_price, cell_fits}
 use Rattle.cascade.specs.Inner.Words.{cell_word, word_block, WordReady}
-use Rattle.cascade.proofs.Laws.Cells.{variables_most, cell_incoming, cell_outgoing, cell_address, cell_width_most}
+use Rattle.cascade.proofs.Laws.Cells.{variables_most, class_count_most, cell_incoming, cell_outgoing, cell_address, cell_width_most}
 use Rattle.cascade.proofs.Laws.Words.{sub_blocks, words_count}
 use Rattle.cascade.proofs.Laws.WordReading.{outer, block_inside, outer_inside, weight_read, weight_fits}
-use Rattle.planner.specs.declared.prices.Extremes.{Extremes}
+use Rattle.diagram.specs.Accepted.{Accepted}
+use Rattle.diagram.specs.declared.Range.{Range}
+use Rattle.diagram.specs.declared.cuts.Cuts.{Cuts}
 use Rattle.planner.specs.Inner.Extremes.{extremes_of}
-use Rattle.planner.specs.Inner.Ready.{CellReady, AddressReady}
 
 -- ---- the extremes so far
 
@@ -57,7 +59,7 @@ module _ (n : ℕ) (table : List ℤ) (h g : ℕ) where
       ap₂ (λ a b. record { least = a; greatest = b }) least greatest
 
   -- All of them decide the width.
-  pub extremes_all : (k : ℕ) (all : Extremes) → all ≡ extremes_of n table h g k → k ≡ length (words_of n table h g) → weight_width (all.least ∷ all.greatest ∷ []) ≡ (cell_of n table h g).width
+  pub extremes_all : (k : ℕ) (all : Range) → all ≡ extremes_of n table h g k → k ≡ length (words_of n table h g) → weight_width (all.least ∷ all.greatest ∷ []) ≡ (cell_of n table h g).width
   unfolding extremes_of cell_of weights
   extremes_all k all e whole =
       ap (λ x. weight_width (x.least ∷ x.greatest ∷ [])) e
@@ -66,11 +68,22 @@ module _ (n : ℕ) (table : List ℤ) (h g : ℕ) where
 
 -- ---- a cell's counts
 
-module _ {n h g : ℕ} {table : List ℤ} {first_row : List ℕ} (r : CellReady n h g table first_row) where
-  open r use {admitted, ends, placed}
+-- A cut has at most 4,096 classes, and a cell as many words.
+pub classes_most : {n : ℕ} {table : List ℤ} → Accepted n table → (h g : ℕ) → h + g ≤ n → class_count n table h ≤ 4096
+unfolding most_classes
+classes_most {n} {table} admitted h g ends = class_count_most n table admitted h (omega arith)
 
-  few : n ≤ 12
-  few = variables_most n table admitted
+pub words_most : {n : ℕ} {table : List ℤ} → Accepted n table → (h g : ℕ) → h + g ≤ n → class_count n table h * 2 ^ g ≤ 4096
+words_most {n} {table} admitted h g ends =
+    let m = mul-le-mul_right (2 ^ g) (class_count_le n table h (omega arith)) in
+    let p = pow_mono {i = h + g} {j = 12} (let f = variables_most n table admitted in omega arith) in
+    omega (arith, pow-add 2 h g)
+
+module _ (cuts : Cuts) (h g : ℕ) (ends : h + g ≤ cuts.n) where
+  open cuts use {n, table, firsts, admitted, classed}
+
+  pub few : n ≤ 12
+  few = variables_most n table.now admitted
 
   -- Cuts are small.
   pub cut_small : h < 64
@@ -87,22 +100,22 @@ module _ {n h g : ℕ} {table : List ℤ} {first_row : List ℕ} (r : CellReady 
   lower_small = let f = few in omega arith
 
   -- The first block of a class, and its place in the row.
-  pub first_place : (class : ℕ) → class < class_count n table h → cut_place h + class < length first_row
-  first_place class l = rw (placed, length_firsts n table) (place_inside n h class (let e = ends in omega arith) (let m = class_count_le n table h (let e = ends in omega arith) in omega arith))
+  pub first_place : (class : ℕ) → class < class_count n table.now h → cut_place h + class < length firsts.now
+  first_place class l = rw (classed.placed, length_firsts n table.now) (place_inside n h class (let e = ends in omega arith) (let m = class_count_le n table.now h (let e = ends in omega arith) in omega arith))
 
   -- Word v of a class.
-  module _ (class v : ℕ) (known : class < class_count n table h) (below : v < 2 ^ g) where
+  module _ (class v : ℕ) (known : class < class_count n table.now h) (below : v < 2 ^ g) where
     abbrev pub from : ℕ
-    from = get_or first_row (cut_place h + class) 0
+    from = get_or firsts.now (cut_place h + class) 0
 
-    one : class * 2 ^ g + v < class_count n table h * 2 ^ g
-    one = let m = part_room (class_count n table h) g class known in omega arith
+    one : class * 2 ^ g + v < class_count n table.now h * 2 ^ g
+    one = let m = part_room (class_count n table.now h) g class known in omega arith
 
-    pub one_of_words : class * 2 ^ g + v < length (words_of n table h g)
-    one_of_words = rw (words_count n table h g) one
+    pub one_of_words : class * 2 ^ g + v < length (words_of n table.now h g)
+    one_of_words = rw (words_count n table.now h g) one
 
-    reading : WordReady n h g (class * 2 ^ g + v) table first_row
-    reading = record { admitted = admitted; ends = ends; word = one; placed = placed }
+    reading : WordReady n h g (class * 2 ^ g + v) table.now firsts.now
+    reading = record { admitted = admitted; ends = ends; word = one; placed = classed.placed }
 
     class_is : (class * 2 ^ g + v) / 2 ^ g ≡ class
     class_is = mul-add-div_right (pow_pos g) class v ∙ ap (λ q. class + q) (div-eq_of_lt below) ∙ add-zero class
@@ -111,83 +124,75 @@ module _ {n h g : ℕ} {table : List ℤ} {first_row : List ℕ} (r : CellReady 
     value_is = mul-add-mod_self_right class (2 ^ g) v ∙ mod-eq_of_lt below
 
     -- Where its block begins.
-    place_is : word_block first_row h g (class * 2 ^ g + v) * 2 ^ (n - (h + g)) ≡ from * 2 ^ (n - h) + v * 2 ^ (n - (h + g))
+    place_is : word_block firsts.now h g (class * 2 ^ g + v) * 2 ^ (n - (h + g)) ≡ from * 2 ^ (n - h) + v * 2 ^ (n - (h + g))
     unfolding word_block
     place_is =
-        ap₂ (λ c w. (get_or first_row (cut_place h + c) 0 * 2 ^ g + w) * 2 ^ (n - (h + g))) class_is value_is
+        ap₂ (λ c w. (get_or firsts.now (cut_place h + c) 0 * 2 ^ g + w) * 2 ^ (n - (h + g))) class_is value_is
         ∙ add-mul (from * 2 ^ g) v (2 ^ (n - (h + g)))
-        ∙ ap (λ p. p + v * 2 ^ (n - (h + g))) (mul_assoc from (2 ^ g) (2 ^ (n - (h + g))) ∙ ap (λ p. from * p) (sub_blocks n table h g ends))
+        ∙ ap (λ p. p + v * 2 ^ (n - (h + g))) (mul_assoc from (2 ^ g) (2 ^ (n - (h + g))) ∙ ap (λ p. from * p) (sub_blocks n table.now h g ends))
 
-    pub weight_inside : from * 2 ^ (n - h) + v * 2 ^ (n - (h + g)) < length table
-    weight_inside = subst (λ p. p < length table) place_is (block_inside reading)
+    pub weight_inside : from * 2 ^ (n - h) + v * 2 ^ (n - (h + g)) < length table.now
+    weight_inside = subst (λ p. p < length table.now) place_is (block_inside reading)
 
-    pub from_inside : from * 2 ^ (n - h) < length table
-    from_inside = subst (λ c. get_or first_row (cut_place h + c) 0 * 2 ^ (n - h) < length table) class_is (outer_inside reading)
+    pub from_inside : from * 2 ^ (n - h) < length table.now
+    from_inside = subst (λ c. get_or firsts.now (cut_place h + c) 0 * 2 ^ (n - h) < length table.now) class_is (outer_inside reading)
 
     -- Its weight is the first value of its block less that of the class's first block.
-    pub weight_at_lem : get_or table (from * 2 ^ (n - h) + v * 2 ^ (n - (h + g))) (pos 0) -ℤ get_or table (from * 2 ^ (n - h)) (pos 0) ≡ (cell_word n table h g (class * 2 ^ g + v)).weight
+    pub weight_at_lem : get_or table.now (from * 2 ^ (n - h) + v * 2 ^ (n - (h + g))) (pos 0) -ℤ get_or table.now (from * 2 ^ (n - h)) (pos 0) ≡ (cell_word n table.now h g (class * 2 ^ g + v)).weight
     weight_at_lem =
         ap₂ ◌-ℤ◌
-        (ap (λ p. get_or table p (pos 0)) (sym place_is) ∙ sym (first_of_block table (n - (h + g)) (word_block first_row h g (class * 2 ^ g + v))))
-        (ap (λ c. get_or table (get_or first_row (cut_place h + c) 0 * 2 ^ (n - h)) (pos 0)) (sym class_is) ∙ sym (first_of_block table (n - h) (outer reading)))
+        (ap (λ p. get_or table.now p (pos 0)) (sym place_is) ∙ sym (first_of_block table.now (n - (h + g)) (word_block firsts.now h g (class * 2 ^ g + v))))
+        (ap (λ c. get_or table.now (get_or firsts.now (cut_place h + c) 0 * 2 ^ (n - h)) (pos 0)) (sym class_is) ∙ sym (first_of_block table.now (n - h) (outer reading)))
         ∙ weight_read reading
 
-    pub weight_small : SFits w32 (cell_word n table h g (class * 2 ^ g + v)).weight
+    pub weight_small : SFits w32 (cell_word n table.now h g (class * 2 ^ g + v)).weight
     weight_small = weight_fits reading
 
-  -- There are at most 4,096 values, and at most as many classes and words.
-  pub values_most : length table ≤ 4096
+  -- There are at most 4,096 values.
+  pub values_most : length table.now ≤ 4096
   values_most = let f = few in omega (arith, admitted.size, pow_mono {i = n} {j = 12} f)
 
-  pub classes_most : class_count n table h ≤ 4096
-  unfolding cell_of most_classes
-  classes_most = (cell_incoming n table admitted h g ends).1
-
-  pub words_most : class_count n table h * 2 ^ g ≤ 4096
-  words_most =
-      let m = mul-le-mul_right (2 ^ g) (class_count_le n table h (let e = ends in omega arith)) in
-      let p = pow_mono {i = h + g} {j = 12} (let f = few in let e = ends in omega arith) in
-      omega (arith, pow-add 2 h g)
-
   -- The cell's numbers fit.
-  pub price_fits : CellFits (class_count n table h) g (class_count n table (h + g)) (cell_of n table h g).width
+  pub price_fits : CellFits (class_count n table.now h) g (class_count n table.now (h + g)) (cell_of n table.now h g).width
   unfolding cell_of
   price_fits = record {
-    address = cell_address n table admitted h g ends;
-    entering = (cell_incoming n table admitted h g ends).1;
-    leaving = (cell_outgoing n table admitted h g ends).1;
-    narrow = let m = cell_width_most n table admitted h g ends in omega arith;
+    address = cell_address n table.now admitted h g ends;
+    entering = (cell_incoming n table.now admitted h g ends).1;
+    leaving = (cell_outgoing n table.now admitted h g ends).1;
+    narrow = let m = cell_width_most n table.now admitted h g ends in omega arith;
   }
 
-  -- They make its price.
-  pub price_is : cell_bits (class_count n table h) g (class_count n table (h + g)) (cell_of n table h g).width ≡ cell_price n table h g
-  unfolding cell_price bits_of cell_of
-  price_is = refl
+  -- So do the count and the address width that its test works with.
+  pub count_small : class_count n table.now h < 2 ^ 32
+  count_small = let m = classes_most admitted h g ends in omega arith
 
-  module _ {count_row : List ℕ} (counted : count_row ≡ all_counts n table) where
-    -- The counts at both cuts stand in the row.
-    pub entering_place : h < length count_row
-    entering_place = rw (counted, length_counts n table) (let e = ends in omega arith)
+  pub address_small : rail_width (class_count n table.now h) + g < 2 ^ 64
+  address_small = let w = rail_width_least (class_count n table.now h) 12 (classes_most admitted h g ends) in let f = few in let e = ends in omega arith
 
-    pub leaving_place : h + g < length count_row
-    leaving_place = rw (counted, length_counts n table) (let e = ends in omega arith)
+-- The cell's numbers make its price, and its address width is what keeps to the limit.
+pub price_is : (n : ℕ) (table : List ℤ) (h g : ℕ) → cell_bits (class_count n table h) g (class_count n table (h + g)) (cell_of n table h g).width ≡ cell_price n table h g
+unfolding cell_price bits_of cell_of
+price_is n table h g = refl
 
-    pub entering : get_or count_row h 0 ≡ class_count n table h
-    entering = rw counted (count_at n table h (let e = ends in omega arith))
+pub count_fits : (n : ℕ) (table : List ℤ) (limit h g : ℕ) → leb (rail_width (class_count n table h) + g) limit ≡ cell_fits n table limit h g
+unfolding cell_fits address_width rail_at
+count_fits n table limit h g = refl
 
-    pub leaving : get_or count_row (h + g) 0 ≡ class_count n table (h + g)
-    leaving = rw counted (count_at n table (h + g) ends)
+module _ (n : ℕ) (table : List ℤ) (h g : ℕ) (ends : h + g ≤ n) {count_row : List ℕ} (counted : count_row ≡ all_counts n table) where
+  -- The counts at both cuts stand in the row.
+  pub entering_place : h < length count_row
+  entering_place = rw (counted, length_counts n table) (let e = ends in omega arith)
 
-    -- From the first the address width is worked out.
-    pub address_ready : AddressReady count_row h g
-    unfolding cell_of most_classes
-    address_ready = record {
-      place = entering_place;
-      cut = cut_small;
-      few = rw entering (cell_incoming n table admitted h g ends).1;
-      group = let f = few in let e = ends in omega arith;
-    }
+  pub leaving_place : h + g < length count_row
+  leaving_place = rw (counted, length_counts n table) (let e = ends in omega arith)
 
-    pub fits_is : (limit : ℕ) → leb (rail_width (get_or count_row h 0) + g) limit ≡ cell_fits n table limit h g
-    unfolding cell_fits address_width rail_at
-    fits_is limit = ap (λ count. leb (rail_width count + g) limit) entering
+  pub entering : get_or count_row h 0 ≡ class_count n table h
+  entering = rw counted (count_at n table h (let e = ends in omega arith))
+
+  pub leaving : get_or count_row (h + g) 0 ≡ class_count n table (h + g)
+  leaving = rw counted (count_at n table (h + g) ends)
+
+  -- From the first the address width is worked out.
+  pub fits_is : (limit : ℕ) → leb (rail_width (get_or count_row h 0) + g) limit ≡ cell_fits n table limit h g
+  unfolding cell_fits address_width rail_at
+  fits_is limit = ap (λ count. leb (rail_width count + g) limit) entering

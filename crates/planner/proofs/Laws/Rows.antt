@@ -1,6 +1,6 @@
 -- What Plan leaves in the rows that it works in.
-use Rattle.std.specs.Prelude.{ℕ, ◌^◌, ◌≡◌, true, false, ◌&&◌, List, length, eqb, ℤ}
-use Rattle.std.proofs.Common.{sym, ◌∙◌, arith, eqb-true, eq-eqb}
+use Rattle.std.specs.Prelude.{ℕ, ◌^◌, ◌≤◌, ◌≡◌, true, false, ◌&&◌, List, ◌++◌, length, take, drop, eqb, ℤ}
+use Rattle.std.proofs.Common.{sym, ◌∙◌, arith, eqb-true, eq-eqb, length-append, length-take-le}
 use Rattle.numbers.specs.Answers.{Answer, accepted, refused}
 use Rattle.numbers.specs.Lists.{every}
 use Rattle.numbers.specs.Ranges.{is_variables, is_value, is_limit}
@@ -9,6 +9,10 @@ use Rattle.diagram.specs.Accepted.{Accepted}
 use Rattle.diagram.specs.Inner.Checks.{table_checks}
 use Rattle.diagram.proofs.Laws.Builds.{table_passes_lem}
 use Rattle.planner.specs.Inner.Rows.{is_classed, RowsFilled, RowsLeft}
+
+-- A row whose front was lent and came back as long has it still.
+pub front_back : (k : ℕ) (row front : List ℕ) → k ≤ length row → length front ≡ length (take k row) → k ≤ length (front ++ drop k row)
+front_back k row front inside back = let l = length-take-le k row inside in rw length-append (omega arith)
 
 module _ (n : ℕ) (table : List ℤ) (limit : ℕ) {class_row first_row count_row : List ℕ} where
   -- All checks pass, and the rows are filled.

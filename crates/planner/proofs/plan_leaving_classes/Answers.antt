@@ -1,48 +1,50 @@
 -- `planner::plan_leaving_classes` meets its contract.
-use mathlib.Core.Path.{sym, ◌∙◌, ap, subst⁻¹}
+use Rattle.std.proofs.Common.{sym, ◌∙◌, ap}
+use mathlib.Core.Path.{subst⁻¹}
 use Rattle.diagram.specs.Accepted.{Accepted}
-use Rattle.numbers.specs.Inner.Checks.{checked}
+use Rattle.numbers.specs.Refusals.{number, answer_of}
+use Rattle.numbers.specs.declared.Refusal.TheVariants as refusals
 use Rattle.diagram.proofs.Laws.Builds.{passed_table}
 use Rattle.cascade.specs.Plan.{Plans}
 use Rattle.cascade.specs.declared.Planned.{Planned}
 use Rattle.planner.proofs.Laws.Plans.{refused_plans, plan_unfit, plan_limited}
 use Rattle.planner.proofs.Laws.Rows.{rows_filled, rows_kept, classed, unclassed}
 use Rattle.planner.proofs.plan_leaving_classes.Goals as goal
-use Rattle.planner.proofs.plan_leaving_classes.Goals.{In-Passed}
+use Rattle.planner.proofs.plan_leaving_classes.Goals.{In_default}
 
 -- The table passed its checks.
-module _ (c : In-Passed) where
+module _ (c : In_default) where
   passed : Accepted c.args.n c.args.table.now
-  unfolding checked
-  passed = passed_table c.args.n c.args.table.now (sym c.check_table.ensures ∙ ap checked c.in-Passed.is)
+  unfolding answer_of
+  passed = passed_table c.args.n c.args.table.now (sym c.check_table.ensures ∙ ap answer_of c.in_default.is)
+
+pub returns-in-Err : goal.returns-in-Err
+unfolding answer_of
+returns-in-Err c =
+    let a = c.args in
+    let unfit = sym c.check_table.ensures ∙ ap answer_of c.in-Err.is in record {
+      plans = subst⁻¹ (λ (r : Planned). Plans a.n a.table.now a.limit r) c.refused_plan.ensures
+          (refused_plans a.n a.table.now a.limit c.in-Err.refusal (plan_unfit a.n a.table.now a.limit _ unfit));
+      rows_left = rows_kept a.n a.table.now a.limit (unclassed a.n a.table.now a.limit (number c.in-Err.refusal) unfit);
+    }
 
 pub returns-then-not-is_limit : goal.returns-then-not-is_limit
+unfolding number
 returns-then-not-is_limit c =
     let a = c.args in
-    let accepted = passed (goal.at.returns-then-not-is_limit c).In-Passed in
+    let accepted = passed (goal.at.returns-then-not-is_limit c).In_default in
     let unlimited = sym c.is_limit.ensures ∙ c.if-not-is_limit.true in record {
       plans = subst⁻¹ (λ (r : Planned). Plans a.n a.table.now a.limit r) c.refused_plan-then-not-is_limit.ensures
-          (refused_plans a.n a.table.now a.limit 8 (plan_limited a.n a.table.now a.limit accepted unlimited));
+          (refused_plans a.n a.table.now a.limit refusals.Limit (plan_limited a.n a.table.now a.limit accepted unlimited));
       rows_left = rows_kept a.n a.table.now a.limit (classed a.n a.table.now a.limit accepted ∙ unlimited);
     }
 
-pub plan_rows-requires : goal.plan_rows-requires
-plan_rows-requires c =
-    record { accepted = (passed (goal.at.plan_rows-requires c).In-Passed, sym c.is_limit.ensures ∙ c.if-not-is_limit.false); rows_room = c.requires }
-
-pub returns-in-Refused : goal.returns-in-Refused
-unfolding checked
-returns-in-Refused c =
-    let a = c.args in
-    let unfit = sym c.check_table.ensures ∙ ap checked c.in-Refused.is in record {
-      plans = subst⁻¹ (λ (r : Planned). Plans a.n a.table.now a.limit r) c.refused_plan.ensures
-          (refused_plans a.n a.table.now a.limit _ (plan_unfit a.n a.table.now a.limit _ unfit));
-      rows_left = rows_kept a.n a.table.now a.limit (unclassed a.n a.table.now a.limit _ unfit);
-    }
+pub plan_table-requires-clause-accepted : goal.plan_table-requires-clause-accepted
+plan_table-requires-clause-accepted c = (passed (goal.at.plan_table-requires-clause-accepted c).In_default, sym c.is_limit.ensures ∙ c.if-not-is_limit.false)
 
 pub returns : goal.returns
 returns c =
     let a = c.args in record {
-      plans = c.plan_rows.ensures.plans;
-      rows_left = rows_filled a.n a.table.now a.limit (classed a.n a.table.now a.limit (passed (goal.at.returns c).In-Passed) ∙ sym c.is_limit.ensures ∙ c.if-not-is_limit.false) c.plan_rows.ensures.rows_filled;
+      plans = c.plan_table.ensures.plans;
+      rows_left = rows_filled a.n a.table.now a.limit (classed a.n a.table.now a.limit (passed (goal.at.returns c).In_default) ∙ sym c.is_limit.ensures ∙ c.if-not-is_limit.false) c.plan_table.ensures.rows_filled;
     }

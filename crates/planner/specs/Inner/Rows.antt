@@ -1,15 +1,15 @@
 -- The rows that Plan works in, and its answer in a refusal.
-use Rattle.std.specs.Prelude.{ℕ, ◌^◌, ◌≡◌, Bool, ◌&&◌, cond, List, [], length, eqb, ℤ}
+use Rattle.std.specs.Prelude.{ℕ, ◌^◌, ◌≡◌, Bool, ◌&&◌, cond, List, [], length, eqb, ℤ, Err}
 use Rattle.numbers.specs.Lists.{every, padded, overwritten}
 use Rattle.numbers.specs.Ranges.{is_variables, is_value, is_limit, most_variables}
-use Rattle.blocks.specs.Rows.{all_numbers, all_firsts, all_counts}
+use Rattle.numbers.specs.declared.Refusal.{Refusal}
 use Rattle.cascade.specs.Plan.{no_cell}
 use Rattle.cascade.specs.declared.Planned.{Planned}
-use Rattle.cascade.specs.declared.Verdict.TheVariants.{Refused}
+use Rattle.blocks.specs.Rows.{all_numbers, all_firsts, all_counts}
 
--- The number of a refusal beside arrays of 0.
-unfoldable pub refused_plan : ℕ → Planned
-refused_plan number = record { verdict = Refused number; sizes = padded most_variables 0 []; cells = padded most_variables no_cell [] }
+-- A refusal beside arrays of 0.
+unfoldable pub refused_plan : Refusal → Planned
+refused_plan refusal = record { verdict = Err refusal; sizes = padded most_variables 0 []; cells = padded most_variables no_cell [] }
 
 -- Rows for the classes of all cuts that a table can have, and for the class count of each cut.
 pub record RowsRoom (class_row first_row count_row : List ℕ) : Type 0 where

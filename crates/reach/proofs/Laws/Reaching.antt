@@ -1,9 +1,11 @@
 -- What follows from the class counts is Reach's answer.
-use Rattle.std.specs.Prelude.{ℕ, suc, ◌<◌, ◌≡◌, true, List, get_or, ℤ}
+use Rattle.std.specs.Prelude.{ℕ, suc, ◌<◌, ◌≡◌, true, List, get_or, ℤ, Ok, Err}
 use Rattle.std.proofs.Math.Path.{sym, ap, ap₂}
 use Rattle.std.proofs.Common.{◌∙◌, le_trans, arith, pow_mono}
 use Rattle.std.proofs.Math.ListN.{length}
 use Rattle.numbers.specs.Answers.{accepted, refused, map_answer}
+use Rattle.numbers.specs.Refusals.{number, answer_of}
+use Rattle.numbers.specs.declared.Refusal.{Refusal}
 use Rattle.numbers.specs.Lists.{numbers_from, padded}
 use Rattle.numbers.specs.Ranges.{is_limit, most_variables}
 use Rattle.numbers.proofs.Laws.Lists.{length_range}
@@ -15,14 +17,13 @@ use Rattle.diagram.specs.Accepted.{Accepted}
 use Rattle.cascade.specs.Groupings.{address_width}
 use Rattle.cascade.specs.Plan.{entries}
 use Rattle.cascade.proofs.Laws.Cells.{variables_most}
-use Rattle.reach.specs.Reach.{reachable, reach, cut_array, reach_totals, reach_answer, reach_judgement, Reaches}
+use Rattle.reach.specs.Reach.{reachable, reach, cut_array, reach_totals, reach_answer, reach_judgement, cuts_of, Reaches}
 use Rattle.reach.specs.Inner.Narrowest.{furthest}
 use Rattle.reach.proofs.Laws.Answers.{reach_finds}
 use Rattle.reach.proofs.Laws.Narrowest.{furthest_same, widest_same}
 use Rattle.reach.proofs.Laws.Reached.{one_wide, cuts_run, least_widest}
 use Rattle.reach.specs.Inner.NarrowCells.{narrowest_in, CountsReady}
 use Rattle.reach.specs.Inner.Counts.{reached_in}
-use Rattle.reach.specs.Inner.Checks.{refused_reach}
 
 module _ (n : ℕ) (table : List ℤ) (a : Accepted n table) {count_row : List ℕ} (counted : count_row ≡ all_counts n table) where
   count_is : (h : ℕ) → h < n → get_or count_row h 0 ≡ class_count n table h
@@ -41,8 +42,8 @@ module _ (n : ℕ) (table : List ℤ) (a : Accepted n table) {count_row : List �
   narrowest_is h l = rw (count_is h l)
 
   -- From them Reach's answer follows.
-  pub counts_reach : (limit : ℕ) → is_limit limit ≡ true → Reaches n table limit (reached_in n limit count_row)
-  unfolding reached_in reachable reach_answer reach_totals reach_judgement cut_array entries most_variables
+  pub counts_reach : (limit : ℕ) → is_limit limit ≡ true → Reaches n table limit (Ok (reached_in n limit count_row))
+  unfolding answer_of cuts_of reached_in reachable reach_answer reach_totals reach_judgement cut_array entries most_variables
   counts_reach limit l =
       let last = furthest_same (narrowest_in count_row) (one_wide n table) n narrowest_is limit in
       let run = ap (λ k. numbers_from 0 (suc k)) last ∙ sym (cuts_run n table a.size limit) in
@@ -54,7 +55,7 @@ module _ (n : ℕ) (table : List ℤ) (a : Accepted n table) {count_row : List �
         listed = ap (padded 13 0) run ∙ sym (ap cut_array finds);
       }
 
--- A refusal of Reach: its number beside an array of 0.
-pub refused_reaches : (n : ℕ) (table : List ℤ) (limit number : ℕ) → reach n table limit ≡ refused number → Reaches n table limit (refused_reach number)
-unfolding refused_reach reach_judgement reach_answer cut_array entries most_variables
-refused_reaches n table limit number e = record { judged = sym (ap (map_answer reach_totals) e); listed = sym (ap cut_array e) }
+-- A refusal of Reach.
+pub refused_reaches : (n : ℕ) (table : List ℤ) (limit : ℕ) (r : Refusal) → reach n table limit ≡ refused (number r) → Reaches n table limit (Err r)
+unfolding answer_of reach_judgement reach_answer cuts_of cut_array padded entries most_variables
+refused_reaches n table limit r e = record { judged = sym (ap (map_answer reach_totals) e); listed = sym (ap cut_array e) }

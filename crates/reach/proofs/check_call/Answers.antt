@@ -1,31 +1,30 @@
 -- `reach::check_call` meets its contract.
-use mathlib.Core.Path.{◌≡◌, sym, ◌∙◌, ap}
+use Rattle.std.specs.Prelude.{Err}
+use Rattle.std.proofs.Common.{rules, ◌≡◌, sym, ◌∙◌, ap}
 use Rattle.numbers.specs.Answers.{accepted, unless}
-use Rattle.numbers.specs.Ranges.{is_limit}
-use Rattle.numbers.specs.Inner.Checks.{checked}
+use Rattle.numbers.specs.Refusals.{number, answer_of}
 use Rattle.diagram.proofs.Laws.Builds.{passed_table}
 use Rattle.reach.specs.Inner.Checks.{call_checks}
 use Rattle.reach.proofs.Laws.Checks.{call_unfit, call_limited}
 use Rattle.reach.proofs.check_call.Goals as goal
-use Rattle.reach.proofs.check_call.Goals.{In-Passed}
+use Rattle.reach.proofs.check_call.Goals.{After-is_limit}
 
 -- The table passed its checks, and the limit decides.
-module _ (c : In-Passed) where
-  limit_decides : call_checks c.args.n c.args.table.now c.args.limit ≡ unless (is_limit c.args.limit) 8 (accepted tt)
-  unfolding checked
-  limit_decides = call_limited c.args.n c.args.table.now c.args.limit (passed_table c.args.n c.args.table.now (sym c.check_table.ensures ∙ ap checked c.in-Passed.is))
+module _ (c : After-is_limit) where
+  limit_decides : call_checks c.args.n c.args.table.now c.args.limit ≡ unless c.is_limit.result 8 (accepted tt)
+  unfolding answer_of
+  limit_decides = call_limited c.args.n c.args.table.now c.args.limit (passed_table c.args.n c.args.table.now (sym c.in_ok-check_table.ensures)) ∙ ap (λ b. unless b 8 (accepted tt)) (sym c.is_limit.ensures)
+
+pub returns-in_err-check_table : goal.returns-in_err-check_table
+unfolding answer_of
+returns-in_err-check_table c =
+    let handed : c.from_residual.result ≡ Err c.in_err-check_table.field-0.0 = search rules in
+    ap answer_of handed ∙ sym (call_unfit c.args.n c.args.table.now c.args.limit _ (sym c.in_err-check_table.ensures))
 
 pub returns-then-not-is_limit : goal.returns-then-not-is_limit
-unfolding checked
-returns-then-not-is_limit c =
-    sym (limit_decides (goal.at.returns-then-not-is_limit c).In-Passed ∙ ap (λ b. unless b 8 (accepted tt)) (sym c.is_limit.ensures ∙ c.if-not-is_limit.true))
+unfolding answer_of number
+returns-then-not-is_limit c = sym (limit_decides (goal.at.returns-then-not-is_limit c).After-is_limit ∙ ap (λ b. unless b 8 (accepted tt)) c.if-not-is_limit.true)
 
-pub returns-in-Refused : goal.returns-in-Refused
-unfolding checked
-returns-in-Refused c =
-    sym (call_unfit c.args.n c.args.table.now c.args.limit _ (sym c.check_table.ensures ∙ ap checked c.in-Refused.is))
-
-pub returns-else-not-is_limit : goal.returns-else-not-is_limit
-unfolding checked
-returns-else-not-is_limit c =
-    sym (limit_decides (goal.at.returns-else-not-is_limit c).In-Passed ∙ ap (λ b. unless b 8 (accepted tt)) (sym c.is_limit.ensures ∙ c.if-not-is_limit.false))
+pub returns : goal.returns
+unfolding answer_of
+returns c = sym (limit_decides (goal.at.returns c).After-is_limit ∙ ap (λ b. unless b 8 (accepted tt)) c.if-not-is_limit.false)

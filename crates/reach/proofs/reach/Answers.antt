@@ -9,25 +9,27 @@ use lib.ListN.{length, take, length-append}
 use lib.Seq.{length-take-le, take_at}
 use lib.Pow.{pow_pos}
 use mir.Facts.{Fits-of_lt}
+use Rattle.std.specs.Prelude.{Ok}
+use Rattle.std.proofs.lemmas.Grind.{common_steps}
 use Rattle.numbers.specs.Ranges.{is_limit, most_variables}
 use Rattle.blocks.specs.Rows.{cut_place, all_counts}
 use Rattle.blocks.proofs.Laws.Cuts.{places_most}
 use Rattle.blocks.proofs.Laws.Places.{length_counts}
 use Rattle.diagram.specs.Accepted.{Accepted}
-use Rattle.numbers.specs.Inner.Checks.{checked}
+use Rattle.numbers.specs.Refusals.{answer_of}
 use Rattle.cascade.proofs.Laws.Cells.{variables_most}
 use Rattle.reach.specs.Reach.{Reaches}
 use Rattle.reach.specs.declared.Reached.{Reached}
 use Rattle.reach.proofs.Laws.Checks.{call_refused, call_admits}
 use Rattle.reach.proofs.Laws.Reaching.{counts_ready, counts_reach, refused_reaches}
 use Rattle.reach.proofs.reach.Goals as goal
-use Rattle.reach.proofs.reach.Goals.{After-class_table, After-power-places, In-Passed}
+use Rattle.reach.proofs.reach.Goals.{After-class_table, After-power-places, In_ok-check_call}
 
 -- ---- a call that passed the checks
-module _ (c : In-Passed) where
+module _ (c : In_ok-check_call) where
   admitted : Accepted c.args.n c.args.table.now × (is_limit c.args.limit ≡ true)
-  unfolding checked
-  admitted = call_admits c.args.n c.args.table.now c.args.limit (sym c.check_call.ensures ∙ ap checked c.in-Passed.is)
+  unfolding answer_of
+  admitted = call_admits c.args.n c.args.table.now c.args.limit (sym c.in_ok-check_call.ensures)
 
   few : c.args.n ≤ 12
   few = variables_most c.args.n c.args.table.now admitted.0
@@ -48,10 +50,10 @@ module _ (c : After-power-places) where
   places = ap (λ p. p - 1) (c.power-places.ensures ∙ ap (λ k. 2 ^ k) (add-one n))
 
   few_places : c.power-places.result - 1 ≤ 8191
-  few_places = rw places (places_most n (few (goal.at.overflow_sub-places c).In-Passed))
+  few_places = rw places (places_most n (few (goal.at.overflow_sub-places c).In_ok-check_call))
 
   few_counts : n + 1 ≤ 13
-  few_counts = let f = few (goal.at.overflow_sub-places c).In-Passed in omega arith
+  few_counts = let f = few (goal.at.overflow_sub-places c).In_ok-check_call in omega arith
 
 pub overflow_sub-places : goal.overflow_sub-places
 overflow_sub-places c = rw c.power-places.ensures (pow_pos (n c + 1))
@@ -86,8 +88,8 @@ class_table-requires c =
     let p = (goal.at.class_table-requires c).After-power-places in record {
       cuts_room = (
         record {
-          variables = few (goal.at.class_table-requires c).In-Passed;
-          whole = (admitted (goal.at.class_table-requires c).In-Passed).0.size;
+          variables = few (goal.at.class_table-requires c).In_ok-check_call;
+          whole = (admitted (goal.at.class_table-requires c).In_ok-check_call).0.size;
           class_places = length-take-le _ _ (few_places p) ∙ places p;
           first_places = length-take-le _ _ (few_places p) ∙ places p;
         },
@@ -124,21 +126,20 @@ pub reach_counts-requires : goal.reach_counts-requires
 reach_counts-requires c =
     let k = (goal.at.reach_counts-requires c).After-class_table in
     let a = c.args in
-    counts_ready a.n a.table.now (admitted (goal.at.reach_counts-requires c).In-Passed).0 (front k _ ∙ counted k)
+    counts_ready a.n a.table.now (admitted (goal.at.reach_counts-requires c).In_ok-check_call).0 (front k _ ∙ counted k)
 
 -- ---- what is answered
-pub returns-in-Refused : goal.returns-in-Refused
-unfolding checked
-returns-in-Refused c =
+pub returns-in_err-check_call : goal.returns-in_err-check_call
+unfolding answer_of
+returns-in_err-check_call c =
     let a = c.args in
-    subst⁻¹ (λ (r : Reached). Reaches a.n a.table.now a.limit r) c.refused_reach.ensures
-    (refused_reaches a.n a.table.now a.limit _
-    (call_refused a.n a.table.now a.limit _ (sym c.check_call.ensures ∙ ap checked c.in-Refused.is)))
+    let law = refused_reaches a.n a.table.now a.limit _ (call_refused a.n a.table.now a.limit _ (sym c.in_err-check_call.ensures)) in
+    grind (arith, common_steps)
 
 pub returns : goal.returns
 returns c =
     let k = (goal.at.returns c).After-class_table in
     let a = c.args in
-    let good = admitted (goal.at.returns c).In-Passed in
-    subst⁻¹ (λ (r : Reached). Reaches a.n a.table.now a.limit r) c.reach_counts.ensures
+    let good = admitted (goal.at.returns c).In_ok-check_call in
+    subst⁻¹ (λ (r : Reached). Reaches a.n a.table.now a.limit (Ok r)) c.reach_counts.ensures
     (counts_reach a.n a.table.now good.0 (front k _ ∙ counted k) a.limit good.1)

@@ -1,10 +1,9 @@
-use Prim.Native.Nat.{◌-◌}
-use lib.ListN.{length}
+use Rattle.std.proofs.Common.{◌-◌, length}
 use Rattle.image.proofs.Laws.Reading.{Checking}
 use Rattle.reader.proofs.check.Given as goal
 
-abbrev pub invariant-loop-number : goal.invariant-loop-number
-invariant-loop-number l = Checking l.image l.place
+abbrev pub invariant-loop-command : goal.invariant-loop-command
+invariant-loop-command l = Checking l.image l.place
 
-abbrev pub decreases-loop-number : goal.decreases-loop-number
-decreases-loop-number l = length l.image - l.place.at
+abbrev pub decreases-loop-command : goal.decreases-loop-command
+decreases-loop-command l = length l.image - l.place.at

@@ -1,10 +1,9 @@
 -- The report's answer: its refusals in their order, and its figures.
-use Prim.Native.Nat.{ℕ, suc, ◌+◌, ◌-◌, ◌^◌, ◌≤◌, ◌<◌}
+use Rattle.std.proofs.Common.{ℕ, suc, ◌+◌, ◌-◌, ◌^◌, ◌≤◌, ◌<◌, arith}
 use Rattle.std.specs.Prelude.{◌≡◌, ◌↔◌, true, false, List, get_or, take, drop, leb, ltb, ℤ, pos}
 use Rattle.std.proofs.Common.{sym, ◌∙◌}
 use Rattle.std.proofs.Math.Path.{ap}
 use Rattle.std.proofs.Math.Bool.{and-false}
-use native.Mathlib.Omega.{arith}
 use Rattle.std.specs.Int.Signed.{mag}
 use borrow.Author.Tests.{leb-true, ltb-true, le-leb, lt-ltb, lt-leb, le-ltb}
 use Rattle.numbers.specs.Answers.{accepted, refused, unless}

@@ -1,10 +1,8 @@
 -- Values from a to b: one after the other, one more, and their sum within bounds.
-use Prim.Native.Nat.{ℕ, suc, ◌+◌, ◌-◌, ◌*◌, ◌^◌, ◌≤◌, ◌<◌}
+use Rattle.std.proofs.Common.{ℕ, suc, ◌+◌, ◌-◌, ◌*◌, ◌^◌, ◌≤◌, ◌<◌, List, [], ◌∷◌, ◌++◌, map, arith}
 use Rattle.std.specs.Prelude.{◌≡◌, Bool, length, get_or, take, drop, ℤ, pos, ◌+ℤ◌}
 use Rattle.std.proofs.Common.{sym, ◌∙◌, mul-le-mul_right, length-drop, ext_get_or, get_or-take, get_or-drop, length-take-le, pow_mono}
 use Rattle.std.proofs.Math.Path.{ap}
-use mathlib.Core.List.{List, [], ◌∷◌, ◌++◌, map}
-use native.Mathlib.Omega.{arith}
 use Rattle.std.proofs.Math.ListN.{length-map}
 use Rattle.std.specs.Int.Signed.{mag}
 use Rattle.numbers.specs.Conditions.{Part}

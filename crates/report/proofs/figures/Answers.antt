@@ -1,16 +1,8 @@
 -- `report::figures` meets its contract. The loop's invariant: the figures of the values up to X, and what its path reaches above the lowest
 -- variables.
-use Prim.Native.Nat.{ℕ, ◌+◌, ◌^◌, ◌≤◌, ◌<◌}
-use mathlib.Core.Path.{◌≡◌, sym, ◌∙◌, ap, ap₂, subst}
-use mathlib.Core.List.{List}
-use native.Mathlib.Omega.{arith}
-use lib.Pow.{pow_mono}
-use lib.IntN.{ℤ, ◌+ℤ◌}
-use mir.Syntax.{w32, w64}
-use mir.Val.{SFits, of_z, to_z}
-use mir.Facts.{to_z-of_z, Fits-of_lt}
+use Rattle.std.proofs.Common.{ℕ, ◌+◌, ◌^◌, ◌≤◌, ◌<◌, ◌≡◌, sym, ◌∙◌, ap, ap₂, subst, List, arith, pow_mono, ℤ, ◌+ℤ◌, w32, w64, SFits, of_z, to_z, to_z-of_z}
+use mir.Facts.{Fits-of_lt}
 use borrow.Author.Rules.{sfits_of}
-use Rattle.numbers.specs.Answers.{accepted}
 use Rattle.numbers.specs.Extremes.{least_of, greatest_of}
 use Rattle.numbers.specs.Lists.{exact_sum}
 use Rattle.numbers.specs.Ranges.{lesser, greater}
@@ -19,7 +11,7 @@ use Rattle.diagram.specs.Walk.{walk_value}
 use Rattle.diagram.specs.Inner.Edges.{descend, Passing, PathReady}
 use Rattle.diagram.proofs.Laws.Checks.{variables_range}
 use Rattle.diagram.specs.declared.Waypoint.{Waypoint}
-use Rattle.report.specs.Report.{values_from, Figures, figures_of, reported}
+use Rattle.report.specs.Report.{values_from, Figures, figures_of, figures_in}
 use Rattle.report.proofs.Laws.Answers.{part_order}
 use Rattle.report.proofs.Laws.Reports.{values_count, extreme_one, extreme_more, sum_one, sum_more, part_sum_small}
 use Rattle.report.specs.Inner.Tops.{lowest_of, top_at}
@@ -78,8 +70,6 @@ loop-x-init c =
     let fits : SFits w32 c.value_below-first.result = sfits_of c.value_below-first.type_inv in
     let first : c.value_below-first.result ≡ walk_value a.n (o s) (list s) a.a = c.value_below-first.ensures ∙ valued s c.top_at-top.result a.a c.top_at-top.ensures in
     record {
-      from = omega arith;
-      within = (order s).0;
       reaches = c.top_at-top.ensures;
       lows = narrow c.value_below-first.result fits ∙ first ∙ sym (extreme_one a.n (o s) (list s) a.a leasts);
       highs = narrow c.value_below-first.result fits ∙ first ∙ sym (extreme_one a.n (o s) (list s) a.a greatests);
@@ -90,9 +80,6 @@ pub next_top-top-requires : goal.next_top-top-requires
 next_top-top-requires c =
     let s = (goal.at.next_top-top-requires c).Start in
     (passing s, let l = c.loop-x-test.true in let p = (order s).1 in omega arith, c.loop-x.invariant.reaches)
-
-pub overflow_add-x : goal.overflow_add-x
-overflow_add-x c = let l = c.loop-x-test.true in let m = most (goal.at.overflow_add-x c).Start in Fits-of_lt (omega arith)
 
 pub value_below-value-requires : goal.value_below-value-requires
 value_below-value-requires c = ready (goal.at.value_below-value-requires c).Start c.next_top-top.result (c.loop-x.x + 1) c.next_top-top.ensures
@@ -112,7 +99,7 @@ module _ (c : After-greater_of-greatest) where
   is_value = c.value_below-value.ensures ∙ valued (goal.at.overflow_cast-sum-in-loop-x c).Start c.next_top-top.result (x + 1) c.next_top-top.ensures
 
   is_sum : to_z w64 c.loop-x.sum-bits +ℤ to_z w64 (of_z w64 (to_z w32 (of_z w32 value))) ≡ exact_sum (values_from c.args.n (o (goal.at.overflow_cast-sum-in-loop-x c).Start) (list (goal.at.overflow_cast-sum-in-loop-x c).Start) c.args.a (x + 1))
-  is_sum = ap₂ (λ s v. s +ℤ v) c.loop-x.invariant.sums (wide value fits ∙ is_value) ∙ sym (sum_more c.args.n (o (goal.at.overflow_cast-sum-in-loop-x c).Start) (list (goal.at.overflow_cast-sum-in-loop-x c).Start) c.args.a x c.loop-x.invariant.from)
+  is_sum = ap₂ (λ s v. s +ℤ v) c.loop-x.invariant.sums (wide value fits ∙ is_value) ∙ sym (sum_more c.args.n (o (goal.at.overflow_cast-sum-in-loop-x c).Start) (list (goal.at.overflow_cast-sum-in-loop-x c).Start) c.args.a x c.loop-x.auto.x)
 
   sum_fits : SFits w64 (exact_sum (values_from c.args.n (o (goal.at.overflow_cast-sum-in-loop-x c).Start) (list (goal.at.overflow_cast-sum-in-loop-x c).Start) c.args.a (x + 1)))
   sum_fits =
@@ -126,28 +113,23 @@ overflow_cast-sum-in-loop-x c = subst (SFits w64) (sym (narrow (value c) (fits c
 pub overflow_add-sum : goal.overflow_add-sum
 overflow_add-sum c = subst (SFits w64) (sym (is_sum c)) (sum_fits c)
 
-pub loop-x-smaller : goal.loop-x-smaller
-loop-x-smaller c = let l = c.loop-x-test.true in omega arith
-
 pub loop-x-preserved : goal.loop-x-preserved
 loop-x-preserved c =
     let s = (goal.at.loop-x-preserved c).Start in
     let a = s.args in
     let i = c.loop-x.invariant in
     record {
-      from = let f = i.from in omega arith;
-      within = let l = c.loop-x-test.true in omega arith;
       reaches = c.next_top-top.ensures;
       lows =
           to_z-of_z {w = w32} (sfits_of c.lesser_of-least.type_inv)
           ∙ c.lesser_of-least.ensures
           ∙ ap₂ lesser i.lows (narrow (value c) (fits c) ∙ is_value c)
-          ∙ sym (extreme_more a.n (o s) (list s) a.a leasts (x c) i.from);
+          ∙ sym (extreme_more a.n (o s) (list s) a.a leasts (x c) c.loop-x.auto.x);
       highs =
           to_z-of_z {w = w32} (sfits_of c.greater_of-greatest.type_inv)
           ∙ c.greater_of-greatest.ensures
           ∙ ap₂ greater i.highs (narrow (value c) (fits c) ∙ is_value c)
-          ∙ sym (extreme_more a.n (o s) (list s) a.a greatests (x c) i.from);
+          ∙ sym (extreme_more a.n (o s) (list s) a.a greatests (x c) c.loop-x.auto.x);
       sums = ap (λ z. to_z w64 (of_z w64 z)) (is_sum c) ∙ to_z-of_z {w = w64} (sum_fits c);
     }
 
@@ -158,17 +140,16 @@ pub overflow_add-result : goal.overflow_add-result
 overflow_add-result c = let m = most (goal.at.overflow_add-result c).Start in Fits-of_lt (omega arith)
 
 pub returns : goal.returns
-unfolding reported figures_of
+unfolding figures_in figures_of
 returns c =
     let s = (goal.at.returns c).Start in
     let a = s.args in
     let i = c.loop-x.invariant in
-    let last : c.loop-x.x ≡ a.b = (let l = c.loop-x-test.false in let w = i.within in omega arith) in
+    let last : c.loop-x.x ≡ a.b = (let l = c.loop-x-test.false in let w = c.loop-x.auto.x-end (order s).0 in omega arith) in
     let values : values_from a.n (o s) (list s) a.a c.loop-x.x ≡ values_from a.n a.offset (list s) a.a a.b = ap₂ (λ z y. values_from a.n z (list s) a.a y) (to_z-of_z s.ranges.offset) last in
-    ap accepted
-    (figures_by
+    figures_by
     (let n = values_count a.n a.offset (list s) a.a a.b in let f = (order s).0 in omega arith)
-    (i.lows ∙ ap least_of values) (i.highs ∙ ap greatest_of values) (i.sums ∙ ap exact_sum values))
+    (i.lows ∙ ap least_of values) (i.highs ∙ ap greatest_of values) (i.sums ∙ ap exact_sum values)
   where
     figures_by : {k m : ℕ} {l g t u v w : ℤ} → k ≡ m → l ≡ u → g ≡ v → t ≡ w → ◌≡◌ {A = Figures} (record { count = k; least = l; greatest = g; sum = t }) (record { count = m; least = u; greatest = v; sum = w })
     figures_by a b c d i = record { count = a i; least = b i; greatest = c i; sum = d i }

@@ -1,27 +1,26 @@
--- `runner::expand_accepted` meets its contract.
-use Prim.Native.Nat.{◌*◌, ◌%◌, ◌^◌}
-use mathlib.Core.Path.{◌≡◌}
-use native.Mathlib.Omega.{arith}
-use lib.ListN.{length}
-use Rattle.image.specs.Inner.Evaluation.{card_read}
+-- `runner::expand_accepted` meets its contract: an accepted image has few variables, and what it tells of the buffer's room.
+use Rattle.std.proofs.Common.{length, arith}
+use Rattle.numbers.specs.Refusals.{number}
+use Rattle.numbers.specs.declared.Refusal.TheVariants as refusals
 use Rattle.image.proofs.Laws.Evaluating.{variables_narrow, variables_size}
 use Rattle.image.proofs.Laws.Running.{expand_room, expands_refused, expands_table}
 use Rattle.runner.proofs.expand_accepted.Goals as goal
-use Rattle.runner.proofs.expand_accepted.Goals.{After-variables}
-
-size : (c : After-variables) → (1 * 2 ^ c.variables.result) % 18446744073709551616 ≡ 2 ^ (card_read c.args.image.now).n
-size c = variables_size c.args.image.now c.requires c.variables.result c.variables.ensures
 
 pub overflow_shl-variables : goal.overflow_shl-variables
 overflow_shl-variables c = variables_narrow c.args.image.now c.requires c.variables.result c.variables.ensures
 
 pub returns-then-table-variables : goal.returns-then-table-variables
+unfolding number
 returns-then-table-variables c =
-    expands_refused c.args.image.now c.args.table.now 2 (expand_room c.args.image.now c.requires (length c.args.table.now) (let t = c.if-table-variables.true in let e = size (goal.at.returns-then-table-variables c).After-variables in omega arith))
-
-pub fill-requires : goal.fill-requires
-fill-requires c = (c.requires, (let t = c.if-table-variables.false in let e = size (goal.at.fill-requires c).After-variables in omega arith))
+    let image = c.args.image.now in
+    let table = c.args.table.now in
+    let size = variables_size image c.requires c.variables.result c.variables.ensures in
+    let other = c.if-table-variables.true in
+    expands_refused image table refusals.Length (expand_room image c.requires (length table) (omega arith))
 
 pub returns : goal.returns
 returns c =
-    expands_table c.args.image.now c.requires c.args.table.now c.fill.new.table (let t = c.if-table-variables.false in let e = size (goal.at.returns c).After-variables in omega arith) c.fill.ensures
+    let image = c.args.image.now in
+    let size = variables_size image c.requires c.variables.result c.variables.ensures in
+    let same = c.if-table-variables.false in
+    expands_table image c.requires c.args.table.now c.fill.new.table (omega arith) c.fill.ensures

@@ -1,4 +1,4 @@
--- No more bytes are kept than there is room for. A piece has a byte at least, so what is left of the buffer is the measure.
+-- No more bytes are kept than there is room for. A read that is not the end gives a byte at least, so what is left of the buffer is the measure.
 use Rattle.std.proofs.Common.{length, ◌-◌, ◌≤◌}
 use Rattle.stdin.proofs.keep_front.Given as goal
 

@@ -1,5 +1,5 @@
 -- The answers, check by check. Both operations are one form: the checks on the weights, a check of their own, the buffer's length.
-use Rattle.std.specs.Prelude.{ℕ, ◌^◌, ◌<◌, ◌≡◌, refl, ◌↔◌, ◌⊎◌, Bool, true, false, List, ◌++◌, length, get_or, eqb, ℤ, pos}
+use Rattle.std.specs.Prelude.{ℕ, ◌^◌, ◌<◌, ◌≡◌, refl, ◌↔◌, ◌⊎◌, Ok, Err, Bool, true, false, List, ◌++◌, length, get_or, eqb, ℤ, pos}
 use Rattle.std.proofs.Common.{sym, ◌∙◌, ap, subst, inl, inr, append-nil, arith, drop_of_length-le}
 use Rattle.std.proofs.Math.Path.{ap₂}
 use borrow.Author.Tests.{eqb-true, eqb-false, eq-eqb, ne_eqb}
@@ -10,8 +10,9 @@ use Rattle.numbers.specs.Ranges.{is_variables, is_value}
 use Rattle.numbers.proofs.Laws.Answers.{not_refused}
 use Rattle.numbers.proofs.Laws.Bools.{yes_or_no}
 use Rattle.numbers.proofs.Laws.Tests.{variables_test, value_test, fails, all_pass, some_fails}
-use Rattle.sums.specs.Sums.{of_weights, into_room, Weighted, summed, Fills}
-use Rattle.sums.specs.declared.Summed.TheVariants.{Table, Refused}
+use Rattle.numbers.specs.Refusals.{number, answer_of}
+use Rattle.numbers.specs.declared.Refusal.{Refusal}
+use Rattle.sums.specs.Sums.{of_weights, into_room, Weighted, Fills}
 
 -- ---- the checks on the weights
 
@@ -197,10 +198,10 @@ pub buffer_kept : (answer : Answer (List ℤ)) (k : ℕ) (buffer : List ℤ) →
 buffer_kept answer k buffer e = ap (λ a. buffer_after a (λ t. t) buffer) e
 
 -- Both promises kept at once, in a refusal and by a table.
-pub fills_refused : (answer : Answer (List ℤ)) (k : ℕ) (buffer : List ℤ) → answer ≡ refused k → Fills answer buffer (Refused k) buffer
-unfolding summed
-fills_refused answer k buffer e = record { answered = ap (map_answer (λ t. tt)) (sym e); filled = sym (buffer_kept answer k buffer e) }
+pub fills_refused : (answer : Answer (List ℤ)) (r : Refusal) (buffer : List ℤ) → answer ≡ refused (number r) → Fills answer buffer (Err r) buffer
+unfolding answer_of
+fills_refused answer r buffer e = record { answered = ap (map_answer (λ t. tt)) (sym e); filled = sym (buffer_kept answer (number r) buffer e) }
 
-pub fills_whole : (answer : Answer (List ℤ)) (table buffer after : List ℤ) → answer ≡ accepted table → length table ≡ length buffer → after ≡ table → Fills answer buffer Table after
-unfolding summed
+pub fills_whole : (answer : Answer (List ℤ)) (table buffer after : List ℤ) → answer ≡ accepted table → length table ≡ length buffer → after ≡ table → Fills answer buffer (Ok tt) after
+unfolding answer_of
 fills_whole answer table buffer after e size is = record { answered = ap (map_answer (λ t. tt)) (sym e); filled = is ∙ sym (buffer_whole answer table buffer e size) }

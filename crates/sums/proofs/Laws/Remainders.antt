@@ -1,12 +1,13 @@
--- Remainders of integers: which they are, of sums, and by the machine's remainder, which has the dividend's sign.
+-- Remainders of integers: which they are, of sums, by the library's Euclidean remainder, and by the machine's remainder, which has the dividend's sign.
 use Prim.Native.Nat.{ℕ, zero, suc, ◌+◌, ◌-◌, ◌*◌, ◌/◌, ◌%◌, ◌≤◌, ◌<◌}
 use Rattle.std.specs.Prelude.{◌≡◌, ◌↔◌, true, false, ltb, ℤ, ◌+ℤ◌, ◌-ℤ◌, ◌*ℤ◌}
 use Rattle.std.proofs.Math.Path.{refl, sym, ap}
 use Rattle.std.proofs.Common.{◌∙◌, subst, true≢false, div-le_self}
-use Rattle.std.proofs.lemmas.Bool.{false≢true}
 use Rattle.std.proofs.Math.Nat.{mod-lt, mod-eq_of_lt, mod_self, add-mod_right, mod-eq-sub-mod, mod-add-div', suc-mod}
 use native.Mathlib.Omega.{arith}
 use Rattle.std.proofs.Math.IntN.{pos, negsuc, neg_ℤ, +ℤ_idr, +ℤ_assoc, -ℤ-+ℤ_cancel, pos-*ℤ-pos, negsuc-*ℤ-pos}
+use Rattle.std.specs.Int.{int_rem_euclid}
+use Rattle.std.proofs.lemmas.Bool.{false≢true}
 use Rattle.std.specs.Int.Signed.{mag, lt_z, quot_z, rem_z}
 use borrow.Author.Tests.{ltb-true, ltb-false, le-ltb, lt-ltb}
 use Rattle.numbers.proofs.Laws.Bools.{yes_or_no}
@@ -20,6 +21,12 @@ quotient_small (negsuc a) m = turned (suc a / m) (div-le_self (suc a) m)
     turned : (r : ℕ) → r ≤ suc a → mag (neg_ℤ (pos r)) ≤ a
     turned zero l = omega arith
     turned (suc r) l = omega arith
+
+-- By the library's Euclidean remainder.
+pub euclidean : (m : ℕ) (z : ℤ) → int_rem_euclid z (pos m) ≡ pos (remainder_by m z)
+unfolding remainder_by
+euclidean m (pos a) = refl
+euclidean m (negsuc a) = ap pos (let e : m - 1 - a % m ≡ m - suc (a % m) = omega arith in e)
 
 module _ (m : ℕ) (some : 0 < m) where
   -- ---- multiples added

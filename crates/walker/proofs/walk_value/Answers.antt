@@ -1,10 +1,6 @@
 -- `walker::walk_value` meets its contract: the path from the root is followed to its end.
-use native.Mathlib.Omega.{arith}
-use mathlib.Core.Path.{◌≡◌, sym, ◌∙◌, ap, subst}
+use Rattle.std.proofs.Common.{arith, ◌≡◌, sym, ◌∙◌, ap, subst, w32, of_z, to_z, to_z-of_z}
 use native.Mathlib.Nat.{zero-add}
-use mir.Syntax.{w32}
-use mir.Val.{of_z, to_z}
-use mir.Facts.{to_z-of_z}
 use Rattle.diagram.specs.Inner.Edges.{descend, root_of, PathReady}
 use Rattle.diagram.proofs.Laws.Checks.{variables_range}
 use Rattle.diagram.proofs.Laws.Edges.{descend_all, ready_root}

@@ -1,29 +1,22 @@
 -- `comparing::same_differences` meets its contract: past the first values, one constant leads from block to block.
-use mir.Syntax.{w64}
-use Prim.Native.Nat.{◌-◌}
-use mathlib.Core.Path.{◌≡◌, sym, ◌∙◌, ap₂}
-use mathlib.Core.List.{List}
-use native.Mathlib.Omega.{arith}
-use lib.ListN.{length, take, drop, length-drop}
-use lib.Seq.{take_all}
-use lib.IntN.{ℤ}
-use mir.Facts.{to_z-of_z}
+use Rattle.std.proofs.Common.{rules, sym, ◌∙◌, ap, ap₂}
+use Rattle.blocks.specs.Blocks.{differences}
 use Rattle.blocks.specs.Classes.{same}
-use Rattle.blocks.specs.Inner.Layout.{less}
-use Rattle.blocks.proofs.Laws.Comparing.{none_left, none_right, by_one_constant}
+use Rattle.blocks.proofs.Laws.Comparing.{none_left, none_right_of_some, by_first_values}
 use Rattle.blocks.proofs.comparing.same_differences.Goals as goal
 
-pub returns-then-left-eq0 : goal.returns-then-left-eq0
-returns-then-left-eq0 c = let a = c.args in none_left a.left.now a.right.now c.if-left-eq0.true
+pub returns-in_default : goal.returns-in_default
+returns-in_default c = c.is_empty.ensures ∙ none_left c.args.left.now c.args.right.now c.in_default.ensures.cases
 
-pub returns-then-right-eq0 : goal.returns-then-right-eq0
-returns-then-right-eq0 c = let a = c.args in sym (none_right a.left.now a.right.now c.if-left-eq0.false c.if-right-eq0.true)
+pub returns-in_default-split_first : goal.returns-in_default-split_first
+returns-in_default-split_first c =
+    none_right_of_some c.in-Some.y.now c.in-Some.lefts.now c.args.right.now c.in_default-split_first.ensures.cases
+    ∙ ap (λ left. same (differences left) (differences c.args.right.now)) (sym c.in-Some.ensures.cases.0)
 
 pub returns : goal.returns
 returns c =
-    let a = c.args in
-    let d = c.difference-constant in
-    let whole : (values : List ℤ) → take (length values - 1) (drop 1 values) ≡ drop 1 values = λ values. take_all (length values - 1) (drop 1 values) (rw length-drop (omega arith)) in
-    c.same_less.ensures
-    ∙ ap₂ same (ap₂ less (to_z-of_z {w = w64} (record { sfits = d.type_inv }) ∙ d.ensures) (whole a.left.now)) (whole a.right.now)
-    ∙ sym (by_one_constant a.left.now a.right.now c.if-left-eq0.false c.if-right-eq0.false)
+    let y = c.in-Some in
+    let z = c.in-Some-split_first in
+    let step = by_first_values y.y.now z.z.now y.lefts.now z.rights.now in
+    let whole = ap₂ (λ left right. same (differences left) (differences right)) (sym y.ensures.cases.0) (sym z.ensures.cases.0) in
+    search rules

@@ -11,9 +11,6 @@ use Rattle.builder.proofs.forks.class_branches.Goals as goal
 pub in_cut-j-requires : goal.in_cut-j-requires
 in_cut-j-requires c = let k = c.requires in (let s = cut_small k in omega arith, first_place k)
 
-pub overflow_sub-n : goal.overflow_sub-n
-overflow_sub-n c = let l = c.requires.cut in omega arith
-
 pub block_branches-requires : goal.block_branches-requires
 block_branches-requires c =
     let k = c.requires in

@@ -1,33 +1,15 @@
 -- `forks::weight_of_block` meets its contract: the difference of two values fits.
-use Prim.Native.Nat.{◌+◌, ◌*◌, ◌^◌, ◌<◌}
+use Prim.Native.Nat.{◌+◌, ◌*◌}
 use mathlib.Core.Path.{◌≡◌, ◌∙◌, ap, ap₂}
-use native.Mathlib.Omega.{arith}
-use lib.ListN.{length}
 use lib.IntN.{◌-ℤ◌}
 use mir.Syntax.{w32}
 use mir.Val.{SFits, of_z, to_z}
 use mir.Facts.{to_z-of_z}
 use borrow.Author.Rules.{sfits_of}
 use Rattle.blocks.specs.Blocks.{block, first}
-use Rattle.diagram.proofs.Laws.Forks.{doubled_inside, lower_inside, weight_fits}
+use Rattle.diagram.proofs.Laws.Forks.{weight_fits}
 use Rattle.builder.proofs.forks.weight_of_block.Goals as goal
 use Rattle.builder.proofs.forks.weight_of_block.Goals.{After-first_of_block-2, Start}
-
--- The place of the upper half is within the table.
-upper : (c : Start) → c.args.j * 2 + 1 < 2 ^ 63
-upper c = let l = doubled_inside (length c.args.table.now) c.args.i c.args.j c.requires.i_bound.1 in let g = c.well_formed.0.1 in omega arith
-
-pub overflow_mul-j : goal.overflow_mul-j
-overflow_mul-j c = let l = upper c in record { fits = omega arith }
-
-pub overflow_add-j : goal.overflow_add-j
-overflow_add-j c = let l = upper c in record { fits = omega arith }
-
-pub overflow_mul-j-2 : goal.overflow_mul-j-2
-overflow_mul-j-2 c = let l = upper (goal.at.overflow_mul-j-2 c).Start in record { fits = omega arith }
-
-pub first_of_block-requires-2 : goal.first_of_block-requires-2
-first_of_block-requires-2 c = let a = c.args in (c.requires.i_bound.0, lower_inside (length a.table.now) a.i a.j c.requires.i_bound.1)
 
 -- The values that were read, and their difference.
 difference : (c : After-first_of_block-2) → let a = c.args in to_z w32 (of_z w32 c.first_of_block.result) -ℤ to_z w32 (of_z w32 c.first_of_block-2.result) ≡ first (block a.table.now a.i (a.j * 2 + 1)) -ℤ first (block a.table.now a.i (a.j * 2))

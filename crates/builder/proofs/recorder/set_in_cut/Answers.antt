@@ -1,9 +1,7 @@
 -- `recorder::set_in_cut` meets its contract.
 use Prim.Native.Nat.{◌+◌, ◌-◌, ◌<◌}
 use mathlib.Core.Path.{ap}
-use native.Mathlib.Omega.{arith}
 use lib.ListN.{length, set}
-use lib.Pow.{pow_pos}
 use borrow.Author.Rules.{scaled_Fits}
 use Rattle.blocks.specs.Rows.{cut_place}
 use Rattle.builder.proofs.recorder.set_in_cut.Goals as goal
@@ -13,12 +11,6 @@ use Rattle.builder.proofs.recorder.set_in_cut.Goals.{After-power}
 inside : (c : After-power) → c.power.result - 1 + c.args.k < length c.args.row.now
 unfolding cut_place
 inside c = rw c.power.ensures c.requires.1
-
-pub overflow_sub-place : goal.overflow_sub-place
-overflow_sub-place c = rw c.power.ensures (pow_pos c.args.h)
-
-pub overflow_add-place : goal.overflow_add-place
-overflow_add-place c = let l = inside c in record { fits = omega arith }
 
 pub offset_bounds-row-place : goal.offset_bounds-row-place
 offset_bounds-row-place c = scaled_Fits (c.power.result - 1 + c.args.k) (length c.args.row.now) 8 (inside c) c.well_formed.0.1

@@ -1,12 +1,10 @@
 -- `cell_rows::cell_rows` meets its contract. The loop's invariant: the rows of the cells so far.
-use Prim.Native.Nat.{ℕ, ◌*◌}
-use mathlib.Core.Path.{◌≡◌}
-use mathlib.Core.List.{List}
-use native.Mathlib.Omega.{arith}
-use lib.ListN.{length, replicate}
-use mir.Facts.{Fits-of_lt}
+use Rattle.std.proofs.Common.{◌≡◌, ℕ, ◌+◌, ◌-◌, ◌*◌, List, length, replicate, ◌∙◌, ap, arith}
+use Rattle.numbers.specs.Lists.{overwritten}
+use Rattle.numbers.proofs.Laws.Overwriting.{part_back}
+use Rattle.cascade.specs.Rows.{cell_row}
 use Rattle.cascade.specs.Plan.{no_cell}
-use Rattle.cascade.proofs.Laws.Rows.{no_rows, row_more, all_rows}
+use Rattle.cascade.proofs.Laws.Rows.{no_rows, row_written, all_rows}
 use Rattle.cascade.proofs.cell_rows.cell_rows.Goals as goal
 use Rattle.cascade.proofs.cell_rows.cell_rows.Goals.{Start}
 
@@ -23,89 +21,16 @@ module _ (c : Start) where
   places = rw count
 
 pub loop-k-init : goal.loop-k-init
-loop-k-init c = no_rows c.args.cells blank (places c)
-
-pub offset_bounds-cells-k : goal.offset_bounds-cells-k
-offset_bounds-cells-k c = Fits-of_lt (let l = c.loop-k-test.true in omega arith)
-
-pub bounds-cells-k : goal.bounds-cells-k
-bounds-cells-k c = c.loop-k-test.true
-
-pub overflow_mul-at : goal.overflow_mul-at
-overflow_mul-at c = Fits-of_lt (let l = c.loop-k-test.true in omega arith)
-
-pub offset_bounds-rows-at : goal.offset_bounds-rows-at
-offset_bounds-rows-at c = Fits-of_lt (let l = c.loop-k-test.true in omega arith)
-
-pub bounds-rows-at : goal.bounds-rows-at
-bounds-rows-at c = let l = c.loop-k-test.true in omega arith
-
-pub overflow_add-rows : goal.overflow_add-rows
-overflow_add-rows c = Fits-of_lt (let l = c.loop-k-test.true in omega arith)
-
-pub offset_bounds-rows-at-in-loop-k : goal.offset_bounds-rows-at-in-loop-k
-offset_bounds-rows-at-in-loop-k c = Fits-of_lt (let l = c.loop-k-test.true in omega arith)
-
-pub bounds-rows-at-in-loop-k : goal.bounds-rows-at-in-loop-k
-bounds-rows-at-in-loop-k c = let l = c.loop-k-test.true in omega arith
-
-pub overflow_add-rows-in-loop-k : goal.overflow_add-rows-in-loop-k
-overflow_add-rows-in-loop-k c = Fits-of_lt (let l = c.loop-k-test.true in omega arith)
-
-pub offset_bounds-rows-at-in-loop-k-2 : goal.offset_bounds-rows-at-in-loop-k-2
-offset_bounds-rows-at-in-loop-k-2 c = Fits-of_lt (let l = c.loop-k-test.true in omega arith)
-
-pub bounds-rows-at-in-loop-k-2 : goal.bounds-rows-at-in-loop-k-2
-bounds-rows-at-in-loop-k-2 c = let l = c.loop-k-test.true in omega arith
-
-pub overflow_add-rows-in-loop-k-2 : goal.overflow_add-rows-in-loop-k-2
-overflow_add-rows-in-loop-k-2 c = Fits-of_lt (let l = c.loop-k-test.true in omega arith)
-
-pub offset_bounds-rows-at-in-loop-k-3 : goal.offset_bounds-rows-at-in-loop-k-3
-offset_bounds-rows-at-in-loop-k-3 c = Fits-of_lt (let l = c.loop-k-test.true in omega arith)
-
-pub bounds-rows-at-in-loop-k-3 : goal.bounds-rows-at-in-loop-k-3
-bounds-rows-at-in-loop-k-3 c = let l = c.loop-k-test.true in omega arith
-
-pub overflow_add-rows-in-loop-k-3 : goal.overflow_add-rows-in-loop-k-3
-overflow_add-rows-in-loop-k-3 c = Fits-of_lt (let l = c.loop-k-test.true in omega arith)
-
-pub offset_bounds-rows-at-in-loop-k-4 : goal.offset_bounds-rows-at-in-loop-k-4
-offset_bounds-rows-at-in-loop-k-4 c = Fits-of_lt (let l = c.loop-k-test.true in omega arith)
-
-pub bounds-rows-at-in-loop-k-4 : goal.bounds-rows-at-in-loop-k-4
-bounds-rows-at-in-loop-k-4 c = let l = c.loop-k-test.true in omega arith
-
-pub overflow_add-rows-in-loop-k-4 : goal.overflow_add-rows-in-loop-k-4
-overflow_add-rows-in-loop-k-4 c = Fits-of_lt (let l = c.loop-k-test.true in omega arith)
-
-pub offset_bounds-rows-at-in-loop-k-5 : goal.offset_bounds-rows-at-in-loop-k-5
-offset_bounds-rows-at-in-loop-k-5 c = Fits-of_lt (let l = c.loop-k-test.true in omega arith)
-
-pub bounds-rows-at-in-loop-k-5 : goal.bounds-rows-at-in-loop-k-5
-bounds-rows-at-in-loop-k-5 c = let l = c.loop-k-test.true in omega arith
-
-pub overflow_add-rows-in-loop-k-5 : goal.overflow_add-rows-in-loop-k-5
-overflow_add-rows-in-loop-k-5 c = Fits-of_lt (let l = c.loop-k-test.true in omega arith)
-
-pub offset_bounds-rows-at-in-loop-k-6 : goal.offset_bounds-rows-at-in-loop-k-6
-offset_bounds-rows-at-in-loop-k-6 c = Fits-of_lt (let l = c.loop-k-test.true in omega arith)
-
-pub bounds-rows-at-in-loop-k-6 : goal.bounds-rows-at-in-loop-k-6
-bounds-rows-at-in-loop-k-6 c = let l = c.loop-k-test.true in omega arith
-
-pub overflow_add-k : goal.overflow_add-k
-overflow_add-k c = Fits-of_lt (let l = c.loop-k-test.true in omega arith)
-
-pub loop-k-smaller : goal.loop-k-smaller
-loop-k-smaller c = let l = c.loop-k-test.true in omega arith
+loop-k-init c = let s = (goal.at.loop-k-init c).Start in no_rows s.args.cells blank (places s)
 
 pub loop-k-preserved : goal.loop-k-preserved
-unfolding no_cell
+unfolding no_cell cell_row
 loop-k-preserved c =
     let s = (goal.at.loop-k-preserved c).Start in
     let l = c.loop-k-test.true in
-    row_more s.args.cells blank (places s) c.loop-k.k c.loop-k.rows c.loop-k.invariant (rw (count s) l)
+    let new = c.copy_from_slice.ensures.after ∙ c.cell_row.ensures in
+    row_written s.args.cells blank (places s) c.loop-k.k c.loop-k.rows c.loop-k.invariant (rw (count s) l)
+    (part_back c.loop-k.rows (7 * c.loop-k.k) c.copy_from_slice.new.self (7 * c.loop-k.k + 7 - 7 * c.loop-k.k) (let e = ap length new in omega arith) ∙ ap (overwritten c.loop-k.rows (7 * c.loop-k.k)) new)
 
 pub returns : goal.returns
 returns c =

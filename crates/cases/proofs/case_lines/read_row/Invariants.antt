@@ -1,9 +1,6 @@
-use Rattle.std.proofs.Common.{◌-◌, length}
+use Rattle.std.proofs.Common.{length}
 use Rattle.decimal.proofs.Laws.Values.{ValuesSoFar}
 use Rattle.cases.proofs.case_lines.read_row.Given as goal
 
 abbrev pub invariant-loop-count : goal.invariant-loop-count
 invariant-loop-count l = ValuesSoFar l.line (record { at = 0; line = 1 }) (length l.initial.row) l.initial.row l.place l.count l.row
-
-abbrev pub decreases-loop-count : goal.decreases-loop-count
-decreases-loop-count l = length l.initial.row - l.count

@@ -1,21 +1,31 @@
 -- `images::expand` meets its contract: what Expand answered and left decides.
-use Rattle.std.proofs.Common.{◌≡◌, ◌≤◌, ◌&&◌, List, map, length, take, replicate, ℤ, sym, ap, ◌∙◌, length-take-le, take_at}
-use Rattle.image.specs.Run.{expanded}
-use Rattle.cases.specs.Rows.{byte_of, number_lent, front_holds}
-use Rattle.cases.proofs.Laws.Rows.{bytes_front}
+use Rattle.std.proofs.Common.{◌≡◌, Some, ◌≤◌, ◌&&◌, List, length, take, replicate, ℤ, sym, ap, ◌∙◌, length-take-le, take_at}
+use Rattle.numbers.specs.Refusals.{answer_of}
+use Rattle.cases.specs.Rows.{image_bytes, number_lent, front_holds}
+use Rattle.cases.proofs.Laws.Rows.{no_image, image_fits, image_within, image_size, image_taken}
 use Rattle.cases.proofs.Laws.Tests.{passed, failed, lent_front}
 use Rattle.cases.specs.ImageCases.{expanded_is, expand_passes}
 use Rattle.cases.proofs.Laws.ImageCases.{expand_too_long, expand_too_many, expand_judged}
 use Rattle.cases.proofs.images.expand.Goals as goal
-use Rattle.cases.proofs.images.expand.Goals.{After-expand-answer}
+use Rattle.cases.proofs.images.expand.Goals.{In-Some, After-expand-answer}
 
-pub returns-then-image-gt-MOST_BYTES : goal.returns-then-image-gt-MOST_BYTES
-returns-then-image-gt-MOST_BYTES c = let a = c.args in sym (expand_too_long a.numbers.now a.image.now a.front.now c.if-image-gt-MOST_BYTES.true)
+pub returns-in_default : goal.returns-in_default
+returns-in_default c = let a = c.args in sym (expand_too_long a.numbers.now a.image.now a.front.now (no_image a.image.now (sym c.image_bytes.ensures ∙ c.in_default.is)))
+
+-- The image's bytes.
+made : (c : In-Some) → image_bytes c.args.image.now ≡ Some c.in-Some.bytes
+made c = sym c.image_bytes.ensures ∙ c.in-Some.is
+
+pub slice_bounds-bytes-end : goal.slice_bounds-bytes-end
+slice_bounds-bytes-end c = image_within c.args.image.now (made (goal.at.slice_bounds-bytes-end c).In-Some)
+
+pub slice_bounds-expand-end : goal.slice_bounds-expand-end
+slice_bounds-expand-end c = image_size c.args.image.now (made (goal.at.slice_bounds-expand-end c).In-Some)
 
 pub returns-then-places-gt-MOST_VALUES : goal.returns-then-places-gt-MOST_VALUES
 returns-then-places-gt-MOST_VALUES c =
     let a = c.args in
-    sym (expand_too_many a.numbers.now a.image.now a.front.now c.if-image-gt-MOST_BYTES.false c.size_at-places.ensures.value c.if-places-gt-MOST_VALUES.true)
+    sym (expand_too_many a.numbers.now a.image.now a.front.now (image_fits a.image.now (made (goal.at.returns-then-places-gt-MOST_VALUES c).In-Some)) c.size_at-places.ensures.value c.if-places-gt-MOST_VALUES.true)
 
 -- What Expand left, and what decides.
 module _ (c : After-expand-answer) where
@@ -28,9 +38,8 @@ module _ (c : After-expand-answer) where
   abbrev image : List ℤ
   image = c.args.image.now
 
-  -- The image's bytes are those of the numbers.
-  bytes_are : take (length image) c.put_bytes.new.bytes ≡ map byte_of image
-  bytes_are = bytes_front _ image c.put_bytes.ensures
+  image_is : image_bytes image ≡ Some c.in-Some.bytes
+  image_is = sym c.image_bytes.ensures ∙ c.in-Some.is
 
   abbrev left : List ℤ
   left = c.expand-answer.new.table
@@ -41,10 +50,10 @@ module _ (c : After-expand-answer) where
   kept : length left ≡ c.size_at-places.result
   kept = c.expand-answer.auto.table ∙ length-take-le _ _ few
 
-  judged : expand_passes numbers image front ≡ (expanded_is numbers (expanded c.expand-answer.result) && front_holds number_lent left front)
+  judged : expand_passes numbers image front ≡ (expanded_is numbers (answer_of c.expand-answer.result) && front_holds number_lent left front)
   judged =
-      expand_judged numbers image front c.if-image-gt-MOST_BYTES.false c.size_at-places.ensures.value
-      (take c.size_at-places.result (replicate 4096 number_lent)) c.expand-answer.result left few bytes_are (lent_front number_lent c.size_at-places.result 4096 few) c.expand-answer.ensures
+      expand_judged numbers image front (image_fits image image_is) c.size_at-places.ensures.value
+      (take c.size_at-places.result (replicate 4096 number_lent)) c.expand-answer.result left few (image_taken image image_is) (lent_front number_lent c.size_at-places.result 4096 few) c.expand-answer.ensures
 
 pub returns-else-expanded_is : goal.returns-else-expanded_is
 returns-else-expanded_is c = c.if-expanded_is.false ∙ sym (judged (goal.at.returns-else-expanded_is c).After-expand-answer ∙ failed _ (sym c.expanded_is.ensures ∙ c.if-expanded_is.false))

@@ -1,33 +1,28 @@
 -- `pair_runs::pair_run` meets its contract.
-use mir.Syntax.{w32}
-use Rattle.std.proofs.Common.{◌≡◌, List, map, length, take, ℤ, sym, ◌∙◌, to_z-of_z}
-use borrow.Author.Rules.{sfits_of}
-use Rattle.cases.specs.Rows.{byte_of}
-use Rattle.cases.proofs.Laws.Rows.{bytes_front}
+use Rattle.std.proofs.Common.{◌≡◌, sym, ◌∙◌, w32, to_z, of_z, rules, slice_index_or, pos, Some}
+use Rattle.cases.specs.Rows.{image_bytes}
+use Rattle.cases.proofs.Laws.Rows.{no_image, image_fits, image_within, image_size, image_taken}
 use Rattle.cases.proofs.Laws.PairCases.{pair_run_too_long, pair_run_judged}
 use Rattle.cases.proofs.pair_runs.pair_run.Goals as goal
-use Rattle.cases.proofs.pair_runs.pair_run.Goals.{After-pair_run-answer}
+use Rattle.cases.proofs.pair_runs.pair_run.Goals.{In-Some}
 
-pub returns-then-image-gt-MOST_BYTES : goal.returns-then-image-gt-MOST_BYTES
-returns-then-image-gt-MOST_BYTES c = let a = c.args in sym (pair_run_too_long a.numbers.now a.image.now c.if-image-gt-MOST_BYTES.true)
+pub returns-in_default : goal.returns-in_default
+returns-in_default c = let a = c.args in sym (pair_run_too_long a.numbers.now a.image.now (no_image a.image.now (sym c.image_bytes.ensures ∙ c.in_default.is)))
 
--- The image's bytes are those of the numbers.
-module _ (c : After-pair_run-answer) where
-  abbrev numbers : List ℤ
-  numbers = c.args.numbers.now
+-- The image's bytes.
+made : (c : In-Some) → image_bytes c.args.image.now ≡ Some c.in-Some.bytes
+made c = sym c.image_bytes.ensures ∙ c.in-Some.is
 
-  abbrev image : List ℤ
-  image = c.args.image.now
+pub slice_bounds-bytes-end : goal.slice_bounds-bytes-end
+slice_bounds-bytes-end c = image_within c.args.image.now (made (goal.at.slice_bounds-bytes-end c).In-Some)
 
-  bytes_are : take (length image) c.put_bytes.new.bytes ≡ map byte_of image
-  bytes_are = bytes_front _ image c.put_bytes.ensures
+pub slice_bounds-pair_run-end : goal.slice_bounds-pair_run-end
+slice_bounds-pair_run-end c = image_size c.args.image.now (made (goal.at.slice_bounds-pair_run-end c).In-Some)
 
 pub returns : goal.returns
 returns c =
-    let b = (goal.at.returns c).After-pair_run-answer in
+    let a = c.args in
+    let m = made (goal.at.returns c).In-Some in
+    let value : to_z w32 (of_z w32 c.number_at-value.result) ≡ slice_index_or a.numbers.now 5 (pos 0) = search rules in
     c.ran_is.ensures
-    ∙ sym
-    (pair_run_judged (numbers b) (image b) c.pair_run-answer.result c.if-image-gt-MOST_BYTES.false (bytes_are b)
-    c.size_at-m.ensures.value b.size_at-x.ensures.value b.size_at-y.ensures.value
-    c.size_at-refusal.ensures.value (to_z-of_z {w = w32} (sfits_of c.number_at-value.type_inv) ∙ c.number_at-value.ensures) c.size_at-words.ensures.value
-    c.pair_run-answer.ensures)
+    ∙ sym (pair_run_judged a.numbers.now a.image.now c.pair_run-answer.result (image_fits a.image.now m) (image_taken a.image.now m) c.size_at-m.ensures.value c.size_at-x.ensures.value c.size_at-y.ensures.value c.size_at-refusal.ensures.value value c.size_at-words.ensures.value c.pair_run-answer.ensures)

@@ -1,30 +1,20 @@
 -- `summed::filled_is` meets its contract.
-use Rattle.std.proofs.Common.{◌≡◌, true, eqb, sym, ap, ◌∙◌, ne_eqb}
-use Rattle.sums.specs.Sums.{summed}
-use Rattle.cases.specs.Rows.{answer_is}
-use Rattle.cases.proofs.Laws.SumCases.{table_told, refusal_told, other_told, same_told}
+use Rattle.std.proofs.Common.{◌≡◌, rules, sym, ap, ◌∙◌, true}
+use Rattle.numbers.specs.Refusals.{answer_of}
+use Rattle.cases.specs.Rows.{size_at, answer_is}
+use Rattle.cases.specs.SumCases.{filled_is}
+use Rattle.cases.proofs.Laws.Tests.{passed, failed}
 use Rattle.cases.proofs.summed.filled_is.Goals as goal
-use Rattle.cases.proofs.summed.filled_is.Goals.{Joined-answer, in-Table, in-Refused}
+use Rattle.cases.proofs.summed.filled_is.Goals.{After-answer_is}
 
--- The number that was told.
-is_told : (c : Joined-answer) → answer_is c.size_at-refusal.result (λ b. true) (summed c.args.answer) ≡ eqb c.size_at-refusal.result c.match-answer.told
-unfolding summed
-is_told c =
-    let refusal = c.size_at-refusal.result in
-    elim c.match-answer.branch [
-      | in-Table w ↦ ap (λ r. answer_is refusal (λ b. true) (summed r)) w.in-Table.is ∙ table_told refusal tt ∙ ap (eqb refusal) (sym w.told-is)
-      | in-Refused w ↦ ap (λ r. answer_is refusal (λ b. true) (summed r)) w.in-Refused.is ∙ refusal_told Unit refusal w.in-Refused.number ∙ ap (eqb refusal) (sym w.told-is)
-    ]
+-- What is told of the answer.
+told : (c : After-answer_is) → c.answer_is.result ≡ answer_is (size_at c.args.numbers.now 3) (λ a. true) (answer_of c.args.answer)
+told c = c.answer_is.ensures (λ a. true) (λ found told e q. search rules) ∙ ap (λ k. answer_is k (λ a. true) (answer_of c.args.answer)) c.size_at.ensures.value
 
-pub returns-else-refusal-told : goal.returns-else-refusal-told
-returns-else-refusal-told c =
-    let m = (goal.at.returns-else-refusal-told c).Joined-answer in
-    let a = m.args in
-    ne_eqb _ _ c.if-refusal-told.false ∙ sym (other_told a.numbers.now a.table.now a.front.now (summed a.answer) m.size_at-refusal.ensures.value (is_told m) c.if-refusal-told.false)
+pub returns-then-answer_is : goal.returns-then-answer_is
+unfolding filled_is
+returns-then-answer_is c = c.numbers_hold.ensures ∙ sym (passed _ (sym (told (goal.at.returns-then-answer_is c).After-answer_is) ∙ c.if-answer_is.true))
 
-pub returns-then-refusal-told : goal.returns-then-refusal-told
-returns-then-refusal-told c =
-    let m = (goal.at.returns-then-refusal-told c).Joined-answer in
-    let a = m.args in
-    c.numbers_hold.ensures
-    ∙ sym (same_told a.numbers.now a.table.now a.front.now (summed a.answer) m.size_at-refusal.ensures.value (is_told m) c.if-refusal-told.true)
+pub returns-else-answer_is : goal.returns-else-answer_is
+unfolding filled_is
+returns-else-answer_is c = c.if-answer_is.false ∙ sym (failed _ (sym (told (goal.at.returns-else-answer_is c).After-answer_is) ∙ c.if-answer_is.false))

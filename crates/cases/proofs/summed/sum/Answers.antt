@@ -1,49 +1,13 @@
--- `summed::sum` meets its contract: what was answered and left decides.
-use Rattle.std.proofs.Common.{◌≡◌, ◌≤◌, List, length, take, replicate, ℤ, sym, ap, ◌∙◌, length-take-le, take_at}
-use Rattle.sums.specs.Sums.{plain_sum, summed}
-use Rattle.cases.specs.Rows.{size_at, number_lent}
-use Rattle.cases.proofs.Laws.Tests.{lent_front}
-use Rattle.cases.specs.SumCases.{filled_is, table_passes, sum_passes}
-use Rattle.cases.proofs.Laws.SumCases.{too_many, judged}
+-- `summed::sum` meets its contract.
+use borrow.Author.Tests.{tests}
+use Rattle.std.proofs.Common.{rules, ap, ◌∙◌}
+use Rattle.sums.specs.Sums.{plain_sum}
+use Rattle.cases.specs.SumCases.{table_passes, sum_passes}
 use Rattle.cases.proofs.summed.sum.Goals as goal
-use Rattle.cases.proofs.summed.sum.Goals.{After-sum-answer}
-
-pub returns-then-places-gt-MOST_VALUES : goal.returns-then-places-gt-MOST_VALUES
-unfolding sum_passes
-returns-then-places-gt-MOST_VALUES c =
-    let a = c.args in
-    sym (too_many a.numbers.now a.front.now c.size_at-places.ensures.value (plain_sum (size_at a.numbers.now 1) a.weights.now) c.if-places-gt-MOST_VALUES.true)
-
--- What was left, and what decides.
-module _ (c : After-sum-answer) where
-  abbrev numbers : List ℤ
-  numbers = c.args.numbers.now
-
-  abbrev weights : List ℤ
-  weights = c.args.weights.now
-
-  abbrev front : List ℤ
-  front = c.args.front.now
-
-  abbrev left : List ℤ
-  left = c.sum-answer.new.table
-
-  few : c.size_at-places.result ≤ 4096
-  few = c.if-places-gt-MOST_VALUES.false
-
-  kept : length left ≡ c.size_at-places.result
-  kept = c.sum-answer.auto.table ∙ length-take-le _ _ few
-
-  decided : sum_passes numbers weights front ≡ filled_is numbers (summed c.sum-answer.result) left front
-  unfolding sum_passes
-  decided =
-      ap (λ k. table_passes numbers (plain_sum k weights) front) (sym c.size_at-n.ensures.value)
-      ∙ judged numbers front c.size_at-places.ensures.value (plain_sum c.size_at-n.result weights)
-      (take c.size_at-places.result (replicate 4096 number_lent)) c.sum-answer.result left few (lent_front number_lent c.size_at-places.result 4096 few) c.sum-answer.ensures
 
 pub returns : goal.returns
+unfolding sum_passes
 returns c =
-    let b = (goal.at.returns c).After-sum-answer in
-    sym
-    (decided b
-    ∙ sym (c.filled_is.ensures ∙ ap (λ row. filled_is (numbers b) (summed b.sum-answer.result) row (front b)) (take_at (left b) _ c.size_at-places.result (kept b))))
+    let a = c.args in
+    c.table_passes.ensures (plain_sum c.size_at-n.result a.weights.now) (λ lent left answer q. search (rules, tests))
+    ∙ ap (λ k. table_passes a.numbers.now (plain_sum k a.weights.now) a.front.now) c.size_at-n.ensures.value

@@ -1,10 +1,6 @@
 -- `cuts::class_cut` meets its contract. The loop's invariant: the rows hold what is known after the first j blocks.
-use Prim.Native.Nat.{◌≤◌, ◌<◌}
-use mathlib.Core.Path.{◌≡◌, refl, sym, ◌∙◌, subst}
-use native.Mathlib.Omega.{arith}
-use lib.ListN.{length, set}
-use lib.Seq.{length-take-le}
-use borrow.Author.Rules.{rules}
+use Rattle.std.proofs.Common.{◌≡◌, ◌≤◌, ◌<◌, refl, sym, subst, arith, length, length-take-le}
+use Rattle.std.proofs.Math.ListN.{set}
 use Rattle.classes.specs.Inner.Noting.{cut_rows, found_noted}
 use Rattle.classes.proofs.Laws.Cut.{CutSoFar, cut_start, rows_few, blocks_before, class_few, cut_next, cut_done}
 use Rattle.classes.proofs.cuts.class_cut.Goals as goal
@@ -44,12 +40,6 @@ find_block-found-requires c =
     let i = (goal.at.find_block-found-requires c).In-loop-j in
     rw c.latest_class-latest.ensures (blocks_before c.requires.cut c.loop-j.invariant (below i))
 
-pub bounds-tried-j : goal.bounds-tried-j
-bounds-tried-j c = let r = c.loop-j.invariant in search rules
-
-pub bounds-uses-j : goal.bounds-uses-j
-bounds-uses-j c = let r = c.loop-j.invariant in search rules
-
 pub note_uses-requires : goal.note_uses-requires
 note_uses-requires c =
     let i = (goal.at.note_uses-requires c).In-loop-j in
@@ -59,12 +49,6 @@ pub note_first-count-requires : goal.note_first-count-requires
 note_first-count-requires c =
     let i = (goal.at.note_first-count-requires c).In-loop-j in
     (few i, let b = below i in let r = c.loop-j.invariant.first_places in omega arith)
-
-pub overflow_add-j : goal.overflow_add-j
-overflow_add-j c = let b = below (goal.at.overflow_add-j c).In-loop-j in search rules
-
-pub loop-j-smaller : goal.loop-j-smaller
-loop-j-smaller c = let b = below (goal.at.loop-j-smaller c).In-loop-j in omega arith
 
 pub loop-j-preserved : goal.loop-j-preserved
 unfolding found_noted
@@ -81,21 +65,6 @@ loop-j-preserved c =
       uses_row = set v.uses v.j c.find_block-found.result.uses;
       use_count_row = c.note_uses.ensures t;
     })
-
-pub shape_of-classes : goal.shape_of-classes
-shape_of-classes c = c.loop-j.invariant.class_places
-
-pub shape_of-firsts : goal.shape_of-firsts
-shape_of-firsts c = c.loop-j.invariant.first_places ∙ sym c.requires.alike.firsts_alike
-
-pub shape_of-tried : goal.shape_of-tried
-shape_of-tried c = c.loop-j.invariant.tried_places ∙ sym c.requires.alike.tried_alike
-
-pub shape_of-uses : goal.shape_of-uses
-shape_of-uses c = c.loop-j.invariant.uses_places ∙ sym c.requires.alike.uses_alike
-
-pub shape_of-use_counts : goal.shape_of-use_counts
-shape_of-use_counts c = c.loop-j.invariant.use_count_places ∙ sym c.requires.alike.use_counts_alike
 
 pub returns : goal.returns
 returns c =

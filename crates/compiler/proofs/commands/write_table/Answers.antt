@@ -1,5 +1,5 @@
 -- `commands::write_table` meets its contract.
-use mir.Facts.{to_z-of_z}
+use Rattle.std.proofs.Common.{to_z-of_z}
 use Rattle.compiler.proofs.Laws.Commands.{table_written}
 use Rattle.compiler.proofs.commands.write_table.Goals as goal
 

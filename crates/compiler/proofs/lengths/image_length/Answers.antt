@@ -1,35 +1,40 @@
--- `lengths::image_length` meets its contract. The loop's invariant: the bytes of the cells so far.
-use Prim.Native.Nat.{◌+◌}
-use mathlib.Core.Path.{◌≡◌, ◌∙◌, ap}
-use native.Mathlib.Omega.{arith}
-use lib.ListN.{take}
+-- `lengths::image_length` meets its contract: the sum of the cells' lengths is small.
+use Rattle.std.specs.Prelude.{◌+◌, ◌≡◌}
+use Rattle.std.specs.List.{sum_by}
+use Rattle.std.proofs.Common.{rules, sym, ◌∙◌, ap, subst, arith, tests}
+use Rattle.std.proofs.lemmas.Iterator.{YieldsList-from_slice, YieldsList-from_map}
+use Rattle.std.proofs.lemmas.Iterator.Adapters.{serves_from_places}
+use Rattle.std.proofs.lemmas.Iterator.Consumers.{sum_by_from_yields_List, fits_by_from_yields_list}
+use Rattle.std.proofs.lemmas.List.{get_or_default}
 use mir.Facts.{Fits-of_lt}
 use Rattle.cascade.specs.Plan.{no_cell}
-use Rattle.compiler.specs.Inner.Lengths.{planned_length}
-use Rattle.compiler.proofs.Laws.Measuring.{MeasuredTo, none_measured, one_measured}
+use Rattle.cascade.specs.declared.Cell.{Cell}
+use Rattle.compiler.specs.Inner.Lengths.{planned_bytes, SmallCell}
+use Rattle.compiler.proofs.Laws.Measuring.{measured, few_bytes}
 use Rattle.compiler.proofs.lengths.image_length.Goals as goal
-use Rattle.compiler.proofs.lengths.image_length.Goals.{After-cell_length-length}
+use Rattle.compiler.proofs.lengths.image_length.Goals.{After-sum}
 
-pub loop-k-init : goal.loop-k-init
-loop-k-init c = none_measured c.requires
+pub sum-requires-clause-can : goal.sum-requires-clause-can
+sum-requires-clause-can c = (
+  tt,
+  serves_from_places (YieldsList-from_slice c.args.cells.now cc) (λ x q k. search rules)
+      (λ x k l e. subst (λ (cell : Cell). SmallCell cell) (get_or_default c.args.cells.now k no_cell x.now l ∙ sym e) (c.requires.each k l)),
+)
 
--- The invariant with the cell that was measured.
-next : (c : After-cell_length-length) → MeasuredTo c.args.cells c.args.count (c.loop-k.k + 1) (c.loop-k.length + c.cell_length-length.result)
-unfolding no_cell
-next c =
-    rw c.cell_length-length.ensures (one_measured c.requires c.loop-k.k c.loop-k.length c.loop-k.invariant c.loop-k-test.true)
+pub sum-requires-clause-fits : goal.sum-requires-clause-fits
+sum-requires-clause-fits c =
+    fits_by_from_yields_list planned_bytes c.args.cells.now c.map.result _
+    (YieldsList-from_map _ planned_bytes (YieldsList-from_slice c.args.cells.now cc) c.map.ensures.closure (λ x r q k. search (rules, tests)))
+    (let f = few_bytes c.requires in omega arith)
 
-pub overflow_add-length : goal.overflow_add-length
-overflow_add-length c =
-    let s = (next c).small in
-    let l = c.loop-k-test.true in
-    let f = c.requires.few in
-    Fits-of_lt (omega arith)
+-- The sum.
+is_sum : (c : After-sum) → c.sum.result ≡ sum_by planned_bytes c.args.cells.now
+is_sum c =
+    sum_by_from_yields_List planned_bytes c.args.cells.now c.map.result _ c.sum.ensures.ran
+    (YieldsList-from_map _ planned_bytes (YieldsList-from_slice c.args.cells.now cc) c.map.ensures.closure (λ x r q k. search (rules, tests)))
 
-pub loop-k-preserved : goal.loop-k-preserved
-loop-k-preserved c = next c
+pub overflow_add-result : goal.overflow_add-result
+overflow_add-result c = let s = is_sum (goal.at.overflow_add-result c).After-sum in let f = few_bytes c.requires in Fits-of_lt (omega arith)
 
 pub returns : goal.returns
-returns c =
-    let s = c.loop-k.invariant in
-    s.measured ∙ ap (λ k. planned_length (take k c.args.cells)) (let l = c.loop-k-test.false in let i = s.inside in let e : c.loop-k.k ≡ c.args.count = omega arith in e)
+returns c = ap (λ sum. 11 + sum) (is_sum (goal.at.returns c).After-sum) ∙ measured c.args.cells.now

@@ -1,44 +1,29 @@
--- `nodes::count_nodes` meets its contract. The loop's invariant: the terminal and the branching classes of the cuts so far.
-use Prim.Native.Nat.{◌+◌, ◌<◌}
-use native.Mathlib.Omega.{arith}
+-- `nodes::count_nodes` meets its contract.
+use Rattle.std.specs.Prelude.{◌+◌, ◌≡◌}
+use Rattle.std.specs.List.{sum_by, range_with_len}
+use Rattle.std.proofs.Common.{rules, ◌∙◌, ap, arith, tests}
+use Rattle.std.proofs.lemmas.Iterator.{YieldsList-from_range, YieldsList-from_map}
+use Rattle.std.proofs.lemmas.Iterator.Consumers.{sum_by_from_yields_List, fits_by_from_yields_list}
 use mir.Facts.{Fits-of_lt}
-use Rattle.compiler.proofs.Laws.Counting.{NodesTo, terminal_alone, cut_place_lem, cut_counted, cuts_small, one_cut, all_cuts}
+use Rattle.compiler.specs.Inner.Counted.{branching_at}
+use Rattle.compiler.proofs.Laws.Counting.{nodes_few, nodes_counted}
 use Rattle.compiler.proofs.nodes.count_nodes.Goals as goal
-use Rattle.compiler.proofs.nodes.count_nodes.Goals.{After-count_branching-nodes}
+use Rattle.compiler.proofs.nodes.count_nodes.Goals.{After-sum}
 
-pub loop-h-init : goal.loop-h-init
-loop-h-init c = terminal_alone c.requires
+pub sum-requires-clause-fits : goal.sum-requires-clause-fits
+sum-requires-clause-fits c =
+    fits_by_from_yields_list (branching_at c.args.cuts.now.n c.args.cuts.now.table.now) (range_with_len 0 c.args.cuts.now.n) c.map.result _
+    (YieldsList-from_map _ (branching_at c.args.cuts.now.n c.args.cuts.now.table.now) (YieldsList-from_range 0 c.args.cuts.now.n c.args.cuts.now.n (cc) (omega arith)) c.map.ensures.closure (λ x r q k. search (rules, tests)))
+    (let f = nodes_few c.args.cuts.now.admitted in omega arith)
 
-pub offset_bounds-counts-h : goal.offset_bounds-counts-h
-offset_bounds-counts-h c = Fits-of_lt (let l = c.loop-h-test.true in let s = cuts_small c.requires in omega arith)
+-- The sum.
+is_sum : (c : After-sum) → c.sum.result ≡ sum_by (branching_at c.args.cuts.now.n c.args.cuts.now.table.now) (range_with_len 0 c.args.cuts.now.n)
+is_sum c =
+    sum_by_from_yields_List (branching_at c.args.cuts.now.n c.args.cuts.now.table.now) (range_with_len 0 c.args.cuts.now.n) c.map.result _ c.sum.ensures.ran
+    (YieldsList-from_map _ (branching_at c.args.cuts.now.n c.args.cuts.now.table.now) (YieldsList-from_range 0 c.args.cuts.now.n c.args.cuts.now.n (cc) (omega arith)) c.map.ensures.closure (λ x r q k. search (rules, tests)))
 
-pub bounds-counts-h : goal.bounds-counts-h
-bounds-counts-h c = cut_place_lem c.requires c.loop-h.h c.loop-h-test.true
-
-pub count_branching-nodes-requires : goal.count_branching-nodes-requires
-count_branching-nodes-requires c = cut_counted c.requires c.loop-h.h c.loop-h-test.true
-
--- The invariant with the cut that was counted.
-next : (c : After-count_branching-nodes) → let l = c.loop-h in NodesTo c.args.n c.args.table.now (l.h + 1) (l.nodes + c.count_branching-nodes.result)
-next c =
-    let l = c.loop-h in
-    rw c.count_branching-nodes.ensures (one_cut c.requires l.h l.nodes l.invariant c.loop-h-test.true)
-
--- There are few cuts.
-few : (c : After-count_branching-nodes) → c.loop-h.h < 12
-few c = let l = c.loop-h-test.true in let s = cuts_small c.requires in omega arith
-
-pub overflow_add-nodes : goal.overflow_add-nodes
-overflow_add-nodes c = Fits-of_lt (let s = (next c).few in let f = few c in omega arith)
-
-pub overflow_add-h : goal.overflow_add-h
-overflow_add-h c = Fits-of_lt (let f = few c in omega arith)
-
-pub loop-h-smaller : goal.loop-h-smaller
-loop-h-smaller c = let l = c.loop-h-test.true in omega arith
-
-pub loop-h-preserved : goal.loop-h-preserved
-loop-h-preserved c = next c
+pub overflow_add-result : goal.overflow_add-result
+overflow_add-result c = let s = is_sum (goal.at.overflow_add-result c).After-sum in let f = nodes_few c.args.cuts.now.admitted in Fits-of_lt (omega arith)
 
 pub returns : goal.returns
-returns c = all_cuts c.requires c.loop-h.h c.loop-h.nodes c.loop-h.invariant c.loop-h-test.false
+returns c = ap (λ sum. 1 + sum) (is_sum (goal.at.returns c).After-sum) ∙ nodes_counted c.args.cuts.now.n c.args.cuts.now.table.now

@@ -1,27 +1,16 @@
--- `words::word_end` meets its contract. The loop's invariant: the word ends as far behind the place as it is left.
-use mathlib.Core.Path.{refl, sym, ◌∙◌}
-use native.Mathlib.Omega.{arith}
-use Rattle.decimal.proofs.Laws.Positions.{word_goes_on, word_stops, word_ends}
+-- `words::word_end` meets its contract: the word's length is the place of the first separator.
+use Rattle.std.proofs.Common.{◌≡◌, ◌-◌, ◌+◌, ◌∙◌, rules, true, false, ap, sym, refl, drop, take, length, arith, add-one, take_all, length-drop}
+use Rattle.std.proofs.lemmas.Iterator.{YieldsList-from_slice, IsFirst-from_position, index_from_first}
+use borrow.Author.Tests.{tests}
+use Rattle.decimal.specs.Inner.Positions.{is_separator, word_length}
 use Rattle.decimal.proofs.words.word_end.Goals as goal
 
-pub loop-at-init : goal.loop-at-init
-loop-at-init c = record { inside = c.requires; same = refl }
-
-pub returns-then-is_separator : goal.returns-then-is_separator
-returns-then-is_separator c =
-    let s = word_stops c.args.text.now c.loop-at.at c.loop-at-test.true (sym c.is_separator.ensures ∙ c.if-is_separator.true) in
-    let same = c.loop-at.invariant.same in
-    omega arith
-
-pub loop-at-preserved : goal.loop-at-preserved
-loop-at-preserved c =
-    let t = c.loop-at-test.true in
-    let s = word_goes_on c.args.text.now c.loop-at.at t (sym c.is_separator.ensures ∙ c.if-is_separator.false) in
-    let same = c.loop-at.invariant.same in
-    record { inside = omega arith; same = omega arith }
-
 pub returns : goal.returns
+unfolding word_length
 returns c =
-    let s = word_ends c.args.text.now c.loop-at.at c.loop-at-test.false in
-    let same = c.loop-at.invariant.same in
-    omega arith
+    let text = c.args.text.now in
+    let rest = take (length text - c.args.start) (drop c.args.start text) in
+    let whole : rest ≡ drop c.args.start text = take_all _ _ (let l = length-drop c.args.start text in omega arith) in
+    let first = IsFirst-from_position _ _ c.position-length.result (λ byte. true ≡ is_separator byte) (λ byte. false ≡ is_separator byte) c.position-length.ensures.ran (YieldsList-from_slice rest cc) (λ x q k. search (rules, tests)) (λ x q k. search (rules, tests)) in
+    let size = index_from_first word_length (λ byte. true ≡ is_separator byte) (λ byte. false ≡ is_separator byte) refl (λ x xs e. rw (sym e, word_length)) (λ x xs e. rw (sym e, word_length) (sym (add-one _))) rest c.position-length.result first in
+    ap (λ k. c.args.start + k) (c.unwrap_or.ensures ∙ sym size ∙ ap word_length whole)

@@ -1,33 +1,11 @@
--- `clients::run_table` meets its contract, from the contracts of Compile and Run.
-use Prim.Native.Nat.{◌≤◌}
-use mathlib.Core.Path.{refl, sym}
-use lib.ListN.{length}
-use lib.Seq.{length-take-le}
-use borrow.Author.Rules.{rules}
-use Rattle.image.specs.Run.{ran}
-use Rattle.demands.proofs.Laws.Clients.{front_inside, run_gives, run_refused}
+-- `clients::run_table` hands Compile's refusal on.
+use Rattle.std.proofs.Common.{rules, ◌≡◌, Err}
+use Rattle.demands.proofs.Laws.Clients.{run_refused}
 use Rattle.demands.proofs.clients.run_table.Goals as goal
-use Rattle.demands.proofs.clients.run_table.Goals.{In-Image}
 
--- The image's length is within the buffer.
-inside : (c : In-Image) → c.in-Image.length ≤ length c.compile-compiled.new.image
-inside c =
+pub returns-in_err-compiled : goal.returns-in_err-compiled
+returns-in_err-compiled c =
     let a = c.args in
-    front_inside a.n a.table.now a.limit a.image.now c.compile-compiled.result _ c.compile-compiled.ensures _ _ _ _ c.in-Image.is
-
-pub slice_bounds-run-end : goal.slice_bounds-run-end
-slice_bounds-run-end c = inside c
-
-pub slice_bounds-run-end-in-Image : goal.slice_bounds-run-end-in-Image
-slice_bounds-run-end-in-Image c = sym (length-take-le _ _ (inside c))
-
-pub returns-in-Image : goal.returns-in-Image
-returns-in-Image c =
-    let a = c.args in
-    run_gives a.n a.table.now a.limit a.image.now c.compile-compiled.result _ c.compile-compiled.ensures _ _ _ _ c.in-Image.is a.x c.run.result c.run.ensures
-
-pub returns-in-Refused : goal.returns-in-Refused
-unfolding ran
-returns-in-Refused c =
-    let a = c.args in
-    run_refused a.n a.table.now a.limit a.image.now c.compile-compiled.result _ c.compile-compiled.ensures _ c.in-Refused.is a.x _ refl
+    let refusal = c.in_err-compiled.field-0.0 in
+    let handed : c.from_residual.result ≡ Err refusal = search rules in
+    rw handed (run_refused a.n a.table.now a.limit a.image.now c.compile.new.image refusal c.in_err-compiled.ensures a.x)

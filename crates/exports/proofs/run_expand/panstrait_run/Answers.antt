@@ -1,6 +1,6 @@
--- `run_expand::panstrait_run` meets its contract: Run's answer comes back.
-use Rattle.exports.proofs.Laws.RanGiven.{same_given}
+-- `run_expand::panstrait_run` meets its contract.
 use Rattle.exports.specs.ImageGiven.{RunGiven}
+use Rattle.exports.proofs.Laws.RanGiven.{same_given}
 use Rattle.exports.proofs.run_expand.panstrait_run.Goals as goal
 
 pub returns : goal.returns

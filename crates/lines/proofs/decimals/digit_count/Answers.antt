@@ -1,20 +1,7 @@
--- `decimals::digit_count` meets its contract. The loop's invariant: the digits counted and those of what is left are all and
--- one.
-use native.Mathlib.Omega.{arith}
-use Rattle.lines.proofs.Laws.Digits.{counting_starts, counting_next, counting_ends}
+-- `decimals::digit_count` meets its contract.
+use Rattle.std.proofs.Common.{rules}
+use Rattle.lines.proofs.Laws.Digits.{logarithm_counts}
 use Rattle.lines.proofs.decimals.digit_count.Goals as goal
 
-pub loop-rest-init : goal.loop-rest-init
-loop-rest-init c = counting_starts _
-
-pub overflow_add-count : goal.overflow_add-count
-overflow_add-count c = let b = c.loop-rest.invariant.bounded in let l = c.loop-rest-test.true in omega arith
-
-pub loop-rest-smaller : goal.loop-rest-smaller
-loop-rest-smaller c = let l = c.loop-rest-test.true in omega arith
-
-pub loop-rest-preserved : goal.loop-rest-preserved
-loop-rest-preserved c = counting_next _ _ _ c.loop-rest-test.true c.loop-rest.invariant
-
 pub returns : goal.returns
-returns c = counting_ends _ _ _ c.loop-rest-test.false c.loop-rest.invariant
+returns c = let log = c.checked_ilog10.ensures in logarithm_counts c.args.number _ _ _ (λ k post. search rules) log.none log.power_le log.next_power_gt c.map_or.ensures

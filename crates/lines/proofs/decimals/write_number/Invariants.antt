@@ -1,8 +1,5 @@
 use Rattle.lines.proofs.Laws.Digits.{DigitsLeft}
 use Rattle.lines.proofs.decimals.write_number.Given as goal
 
-abbrev pub invariant-loop-left : goal.invariant-loop-left
-invariant-loop-left l = DigitsLeft l.initial.text l.at l.number l.left l.rest l.text
-
-abbrev pub decreases-loop-left : goal.decreases-loop-left
-decreases-loop-left l = l.left
+abbrev pub invariant-loop-k : goal.invariant-loop-k
+invariant-loop-k l = DigitsLeft l.initial.text l.at l.number l.k l.rest l.text

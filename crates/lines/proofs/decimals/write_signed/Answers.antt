@@ -1,12 +1,9 @@
 -- `decimals::write_signed` meets its contract, by the sign.
-use Prim.Native.Nat.{◌+◌}
-use mathlib.Core.Path.{◌≡◌, refl, ◌∙◌, ap, sym}
-use mathlib.Core.List.{◌∷◌}
-use native.Mathlib.Omega.{arith}
-use lib.ListN.{length, length-set}
-use lib.IntN.{pos}
-use lib.Signed.{mag}
-use mir.Facts.{to_z-of_z}
+use Rattle.std.specs.Prelude.{◌+◌, ◌≡◌, ◌∷◌, length, pos}
+use Rattle.std.proofs.Common.{refl, ◌∙◌, ap, sym, arith}
+use Rattle.std.proofs.Math.Facts.{to_z-of_z}
+use Rattle.std.proofs.Math.ListN.{length-set}
+use Rattle.std.specs.Int.Signed.{mag}
 use Rattle.lines.specs.Text.{decimal}
 use Rattle.lines.proofs.Laws.Writing.{byte_stored, writes_behind, negative_decimal, other_decimal}
 use Rattle.lines.proofs.decimals.write_signed.Goals as goal
@@ -34,20 +31,13 @@ bounds-text-at c = let e = ap length (negative c) in let p = c.requires in omega
 pub write_number-requires : goal.write_number-requires
 write_number-requires c = let e = ap length (negative (goal.at.write_number-requires c).Then-number-lt0) in let p = c.requires in let a = c.args in let s = length-set a.text.now a.at 45 in omega arith
 
-pub shape_of-text-then-number-lt0 : goal.shape_of-text-then-number-lt0
-shape_of-text-then-number-lt0 c = let a = c.args in c.write_number.auto.text ∙ length-set a.text.now a.at 45
-
 pub returns-then-number-lt0 : goal.returns-then-number-lt0
 returns-then-number-lt0 c =
     let t = (goal.at.returns-then-number-lt0 c).Then-number-lt0 in
-    let s = c in
-    let a = s.args in
+    let a = c.args in
     let e = ap length (negative t) in
-    let p = s.requires in
+    let p = c.requires in
     rw (negative t) (writes_behind (byte_stored a.text.now a.at 45 refl (omega arith)) (omega arith) c.write_number.ensures)
-
-pub write_number-requires-2 : goal.write_number-requires-2
-write_number-requires-2 c = rw (other (goal.at.write_number-requires-2 c).Else-number-lt0) at c.requires
 
 pub returns : goal.returns
 returns c = rw (other (goal.at.returns c).Else-number-lt0) c.write_number-2.ensures

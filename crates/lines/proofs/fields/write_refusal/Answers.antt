@@ -1,5 +1,5 @@
 -- `fields::write_refusal` meets its contract.
-use native.Mathlib.Omega.{arith}
+use Rattle.std.proofs.Common.{arith}
 use Rattle.lines.specs.Text.{ascii, line}
 use Rattle.lines.proofs.fields.write_refusal.Goals as goal
 

@@ -1,6 +1,6 @@
 -- `cell_lines::write_cell` meets its contract: the cell's numbers are written as they are.
-use mir.Syntax.{w32}
-use mir.Facts.{to_z_pos}
+use Rattle.std.proofs.Common.{w32}
+use Rattle.std.proofs.lemmas.Int.{to_z_pos}
 use Rattle.lines.specs.Text.{ascii, line}
 use Rattle.listing.specs.Inner.CellLines.{plan_line}
 use Rattle.listing.proofs.cell_lines.write_cell.Goals as goal
@@ -11,11 +11,11 @@ write_line-requires c =
     let cell = c.args.cell in
     let small = c.requires.cell_small in
     let p = c.requires.cell_in_bounds in
-    rw (to_z_pos w32 {n = cell.group} small.group, to_z_pos w32 {n = cell.incoming} small.incoming, to_z_pos w32 {n = cell.outgoing} small.outgoing, to_z_pos w32 {n = cell.width} small.width, to_z_pos w32 {n = cell.bits} small.bits) p
+    rw (to_z_pos w32 _ small.group, to_z_pos w32 _ small.incoming, to_z_pos w32 _ small.outgoing, to_z_pos w32 _ small.width, to_z_pos w32 _ small.bits) p
 
 pub returns : goal.returns
 unfolding plan_line line ascii
 returns c =
     let cell = c.args.cell in
     let small = c.requires.cell_small in
-    rw (to_z_pos w32 {n = cell.group} small.group, to_z_pos w32 {n = cell.incoming} small.incoming, to_z_pos w32 {n = cell.outgoing} small.outgoing, to_z_pos w32 {n = cell.width} small.width, to_z_pos w32 {n = cell.bits} small.bits) at c.write_line.ensures
+    rw (to_z_pos w32 _ small.group, to_z_pos w32 _ small.incoming, to_z_pos w32 _ small.outgoing, to_z_pos w32 _ small.width, to_z_pos w32 _ small.bits) at c.write_line.ensures

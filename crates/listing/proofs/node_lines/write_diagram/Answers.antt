@@ -1,12 +1,6 @@
 -- `node_lines::write_diagram` meets its contract: the three parts, one behind the other.
-use Prim.Native.Nat.{ℕ, ◌+◌}
-use mathlib.Core.Path.{◌≡◌}
-use mathlib.Core.List.{List, [], ◌∷◌, ◌++◌}
-use native.Mathlib.Omega.{arith}
-use lib.ListN.{length, length-append}
-use lib.IntN.{pos}
-use mir.Syntax.{w32}
-use mir.Facts.{to_z_pos, to_z-of_z}
+use Rattle.std.proofs.Common.{ℕ, ◌+◌, ◌≡◌, List, [], ◌∷◌, ◌++◌, arith, length, length-append, pos, w32, to_z-of_z}
+use Rattle.std.proofs.lemmas.Int.{to_z_pos}
 use Rattle.lines.specs.Text.{ascii, line}
 use Rattle.listing.specs.Inner.NodeLines.{record_lines, diagram_text}
 use Rattle.lines.specs.Inner.Writing.{Writes}
@@ -36,7 +30,7 @@ module _ (c : Start) where
 module _ (c : After-write_line-first) where
   first_line : Writes c.args.text.now 0 (line "table" (pos c.args.n ∷ c.args.offset ∷ [])) c.write_line-first.result c.write_line-first.new.text
   unfolding line ascii
-  first_line = rw (to_z_pos w32 {n = c.args.n} c.requires.n_bound.0, to_z-of_z c.ranges.offset) at c.write_line-first.ensures
+  first_line = rw (to_z_pos w32 _ c.requires.n_bound.0, to_z-of_z c.ranges.offset) at c.write_line-first.ensures
 
 -- The node lines are written behind it.
 module _ (c : After-write_nodes-next) where
@@ -56,7 +50,7 @@ write_line-first-requires c =
     let f = front s in
     let w = whole s in
     let p = s.requires.count_in_bounds in
-    rw (to_z_pos w32 {n = s.args.n} s.requires.n_bound.0, to_z-of_z s.ranges.offset) (omega arith)
+    rw (to_z_pos w32 _ s.requires.n_bound.0, to_z-of_z s.ranges.offset) (omega arith)
 
 pub write_nodes-next-requires : goal.write_nodes-next-requires
 write_nodes-next-requires c =

@@ -1,34 +1,12 @@
 -- `node_lines::write_node` meets its contract: the record's numbers are written as they are read.
-use Prim.Native.Nat.{ℕ}
-use mathlib.Core.Path.{◌≡◌, ◌∙◌}
-use mathlib.Core.List.{List, [], ◌∷◌}
-use lib.IntN.{ℤ, pos}
-use mir.Syntax.{w32}
-use mir.Val.{to_z, of_z}
-use mir.Facts.{to_z_pos, to_z-of_z}
+use Rattle.std.proofs.Common.{ℕ, ◌≡◌, ◌∙◌, List, [], ◌∷◌, ℤ, pos, w32, to_z, of_z, to_z-of_z}
+use Rattle.std.proofs.lemmas.Int.{to_z_pos}
 use Rattle.lines.specs.Text.{ascii, line}
-use Rattle.diagram.specs.Records.{record_size}
 use Rattle.diagram.specs.Walk.{variable_at, low_at, high_at, weight_at}
 use Rattle.listing.specs.Inner.NodeLines.{record_line}
-use borrow.Author.Rules.{rules, sfits_of}
+use borrow.Author.Rules.{sfits_of}
 use Rattle.listing.proofs.node_lines.write_node.Goals as goal
 use Rattle.listing.proofs.node_lines.write_node.Goals.{After-number_at-weight}
-
-pub number_at-variable-requires : goal.number_at-variable-requires
-unfolding record_size
-number_at-variable-requires c = search rules
-
-pub number_at-low-requires : goal.number_at-low-requires
-unfolding record_size
-number_at-low-requires c = search rules
-
-pub number_at-high-requires : goal.number_at-high-requires
-unfolding record_size
-number_at-high-requires c = search rules
-
-pub number_at-weight-requires : goal.number_at-weight-requires
-unfolding record_size
-number_at-weight-requires c = search rules
 
 -- The numbers of the line: that of the record, and the four that were read.
 module _ (c : After-number_at-weight) where
@@ -41,7 +19,7 @@ module _ (c : After-number_at-weight) where
   numbers : to_z w32 k ∷ to_z w32 (of_z w32 c.number_at-variable.result) ∷ to_z w32 (of_z w32 c.number_at-low.result) ∷ to_z w32 (of_z w32 c.number_at-high.result) ∷ to_z w32 (of_z w32 c.number_at-weight.result) ∷ [] ≡ pos k ∷ variable_at nodes k ∷ low_at nodes k ∷ high_at nodes k ∷ weight_at nodes k ∷ []
   unfolding variable_at low_at high_at weight_at
   numbers =
-      let number = to_z_pos w32 {n = k} c.requires.recorded.1 in
+      let number = to_z_pos w32 _ c.requires.recorded.1 in
       let variable = to_z-of_z {w = w32} (sfits_of c.number_at-variable.type_inv) ∙ c.number_at-variable.ensures in
       let low = to_z-of_z {w = w32} (sfits_of c.number_at-low.type_inv) ∙ c.number_at-low.ensures in
       let high = to_z-of_z {w = w32} (sfits_of c.number_at-high.type_inv) ∙ c.number_at-high.ensures in

@@ -1,15 +1,12 @@
 -- `arithmetic::greater_of` meets its contract.
-use mathlib.Core.Path.{◌∙◌, sym}
+use Rattle.std.proofs.Common.{◌∙◌}
+use mir.Syntax.{w32}
 use mir.Facts.{to_z-of_z}
-use Rattle.numbers.proofs.Laws.Extremes.{greater_first, greater_second}
+use borrow.Author.Rules.{sfits_of}
+use Rattle.numbers.proofs.Laws.Comparing.{max_greater}
 use Rattle.numbers.proofs.arithmetic.greater_of.Goals as goal
 
-pub returns-then-a-b : goal.returns-then-a-b
-returns-then-a-b c =
+pub returns : goal.returns
+returns c =
     let f = c.ranges in
-    to_z-of_z f.b ∙ sym (greater_second _ _ (rw (to_z-of_z f.a, to_z-of_z f.b) at c.if-a-b.true))
-
-pub returns-else-a-b : goal.returns-else-a-b
-returns-else-a-b c =
-    let f = c.ranges in
-    to_z-of_z f.a ∙ sym (greater_first _ _ (rw (to_z-of_z f.a, to_z-of_z f.b) at c.if-a-b.false))
+    to_z-of_z {w = w32} (sfits_of c.max.type_inv) ∙ c.max.ensures.value ∙ rw (to_z-of_z f.a, to_z-of_z f.b) (max_greater c.args.a c.args.b)

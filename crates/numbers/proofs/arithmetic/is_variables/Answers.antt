@@ -1,12 +1,9 @@
 -- `arithmetic::is_variables` meets its contract.
-use borrow.Author.Tests.{le-leb, lt-leb}
+use Rattle.std.proofs.Common.{◌∙◌}
 use Rattle.numbers.specs.Ranges.{is_variables, most_variables}
+use Rattle.numbers.proofs.Laws.Comparing.{nat_in_range}
 use Rattle.numbers.proofs.arithmetic.is_variables.Goals as goal
-
-pub returns-then-n-lt1 : goal.returns-then-n-lt1
-unfolding is_variables
-returns-then-n-lt1 c = rw (lt-leb 1 c.args.n c.if-n-lt1.true)
 
 pub returns : goal.returns
 unfolding is_variables most_variables
-returns c = rw (le-leb 1 c.args.n c.if-n-lt1.false)
+returns c = let e = c.new.ensures in c.contains.ensures.value ∙ rw (e.start, e.end, e.exhausted) (nat_in_range 1 12 c.args.n)

@@ -1,15 +1,12 @@
 -- `arithmetic::lesser_of` meets its contract.
-use mathlib.Core.Path.{◌∙◌, sym}
+use Rattle.std.proofs.Common.{◌∙◌}
+use mir.Syntax.{w32}
 use mir.Facts.{to_z-of_z}
-use Rattle.numbers.proofs.Laws.Extremes.{lesser_first, lesser_second}
+use borrow.Author.Rules.{sfits_of}
+use Rattle.numbers.proofs.Laws.Comparing.{min_lesser}
 use Rattle.numbers.proofs.arithmetic.lesser_of.Goals as goal
 
-pub returns-then-a-b : goal.returns-then-a-b
-returns-then-a-b c =
+pub returns : goal.returns
+returns c =
     let f = c.ranges in
-    to_z-of_z f.a ∙ sym (lesser_first _ _ (rw (to_z-of_z f.a, to_z-of_z f.b) at c.if-a-b.true))
-
-pub returns-else-a-b : goal.returns-else-a-b
-returns-else-a-b c =
-    let f = c.ranges in
-    to_z-of_z f.b ∙ sym (lesser_second _ _ (rw (to_z-of_z f.a, to_z-of_z f.b) at c.if-a-b.false))
+    to_z-of_z {w = w32} (sfits_of c.min.type_inv) ∙ c.min.ensures.value ∙ rw (to_z-of_z f.a, to_z-of_z f.b) (min_lesser c.args.a c.args.b)

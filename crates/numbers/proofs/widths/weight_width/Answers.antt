@@ -1,6 +1,6 @@
 -- `widths::weight_width` meets its contract: the bits of the greater unsigned part, and one more where a weight is negative.
 use Prim.Native.Nat.{◌+◌, ◌^◌, ◌<◌}
-use mathlib.Core.Path.{◌≡◌, sym, ◌∙◌, ap}
+use mathlib.Core.Path.{◌≡◌, sym, ◌∙◌, ap, ap₂}
 use mathlib.Core.Bool.{true, false, not, ◌||◌}
 use mathlib.Core.List.{[], ◌∷◌}
 use native.Mathlib.Numerals.{one-add}
@@ -10,24 +10,18 @@ use lib.Signed.{mag, lt_z}
 use mir.Facts.{Fits-of_lt, to_z-of_z}
 use Rattle.numbers.specs.Inner.Bits.{bit_length, greatest_part}
 use Rattle.numbers.proofs.Laws.BitLength.{bit_length_least, unsigned_length, signed_length, pair_sign, pair_part}
+use Rattle.std.specs.Prelude.{max}
 use Rattle.numbers.proofs.widths.weight_width.Goals as goal
-use Rattle.numbers.proofs.widths.weight_width.Goals.{then-low-high, else-low-high, then-least-lt0, else-least-lt0, After-bit_length-bits, Joined-least-lt0}
+use Rattle.numbers.proofs.widths.weight_width.Goals.{then-least-lt0, else-least-lt0, After-bit_length-bits, Joined-least-lt0}
 
 -- The bits are those of the greater unsigned part.
 is_length : (c : After-bit_length-bits) → c.bit_length-bits.result ≡ bit_length (greatest_part (c.args.least ∷ c.args.greatest ∷ []))
 is_length c =
-    let at = c.before.before.before.before in
-    let low = at.args.least in
-    let high = at.args.greatest in
-    let is-low : c.unsigned_part-low.result ≡ mag low = c.unsigned_part-low.ensures ∙ ap mag (to_z-of_z at.ranges.least) in
-    let is-high : c.unsigned_part-high.result ≡ mag high = c.unsigned_part-high.ensures ∙ ap mag (to_z-of_z at.ranges.greatest) in
-    c.bit_length-bits.ensures
-    ∙ ap bit_length
-    (elim c.if-low-high.branch [
-      | then-low-high w ↦ w.bit_length-is ∙ (let l = w.if-low-high.true in omega arith)
-      | else-low-high w ↦ w.bit_length-is ∙ (let l = w.if-low-high.false in omega arith)
-    ]
-    ∙ pair_part low high)
+    let low = c.args.least in
+    let high = c.args.greatest in
+    let is-low : c.unsigned_part-low.result ≡ mag low = c.unsigned_part-low.ensures ∙ ap mag (to_z-of_z c.ranges.least) in
+    let is-high : c.unsigned_part-high.result ≡ mag high = c.unsigned_part-high.ensures ∙ ap mag (to_z-of_z c.ranges.greatest) in
+    c.bit_length-bits.ensures ∙ ap bit_length (c.max.ensures ∙ ap₂ max is-low is-high ∙ pair_part low high)
 
 -- The two tests for a negative weight.
 is_signed : (c : Joined-least-lt0) → c.if-least-lt0.value ≡ (lt_z c.args.least (pos 0) || lt_z c.args.greatest (pos 0))

@@ -1,21 +1,12 @@
--- `writing::write_four` meets its contract: two bytes, and two behind them.
-use Prim.Native.Nat.{◌+◌, ◌/◌}
-use mathlib.Core.Path.{sym, ◌∙◌, ap}
-use native.Mathlib.Omega.{arith}
+-- `writing::write_four` meets its contract.
+use Rattle.std.proofs.Common.{◌+◌, ◌-◌, ◌∙◌, length, ap, arith}
 use Rattle.numbers.specs.Lists.{overwritten}
-use Rattle.operands.specs.Bytes.{big_endian}
-use Rattle.operands.proofs.Laws.Bytes.{length_big_endian}
-use Rattle.operands.proofs.Laws.Digits.{four_bytes}
-use Rattle.numbers.proofs.Laws.Written.{written_behind}
+use Rattle.numbers.proofs.Laws.Overwriting.{part_back}
+use Rattle.operands.proofs.Laws.Bytes.{written_part}
 use Rattle.operands.proofs.writing.write_four.Goals as goal
 
 pub returns : goal.returns
 returns c =
-    let s = c in
-    let a = s.args in
-    let row = a.buffer.now in
-    let high = big_endian 2 (a.number / 65536) in
-    let long = length_big_endian 2 (a.number / 65536) in
-    let room = s.requires in
-    written_behind row a.at high c.write_two.ensures (a.at + 2) (big_endian 2 a.number) c.write_two-2.ensures (omega arith) (omega arith)
-    ∙ ap (overwritten row a.at) (sym (four_bytes a.number))
+    let a = c.args in
+    let new = c.copy_from_slice.ensures.after ∙ c.to_be_bytes.ensures ∙ written_part 4 a.number in
+    part_back a.buffer.now a.at c.copy_from_slice.new.self (a.at + 4 - a.at) (let e = ap length new in omega arith) ∙ ap (overwritten a.buffer.now a.at) new

@@ -1,8 +1,6 @@
 -- `cells::list_cells` meets its contract. The loop's invariant: the cells down to cut h are listed.
-use Prim.Native.Nat.{◌+◌, ◌<◌}
-use mathlib.Core.Path.{◌≡◌, ap, subst⁻¹}
-use native.Mathlib.Omega.{arith}
-use lib.ListN.{set}
+use Rattle.std.proofs.Common.{◌+◌, ◌<◌, ◌≡◌, ap, arith, set}
+use mathlib.Core.Path.{subst⁻¹}
 use mir.Facts.{Fits-of_lt}
 use Rattle.numbers.specs.Lists.{padded}
 use Rattle.numbers.specs.Ranges.{most_variables}
@@ -16,17 +14,14 @@ use Rattle.planner.proofs.cells.list_cells.Goals.{After-chosen_cell-cell, In-loo
 
 pub loop-h-init : goal.loop-h-init
 unfolding padded most_variables no_cell
-loop-h-init c = none_listed c.requires
+loop-h-init c = none_listed c.args.cuts.now c.requires
 
 -- In a turn a cell lies ahead.
-ahead : (c : In-loop-h) → let a = c.args in CellChosen a.n c.loop-h.h a.counts.now a.use_counts.now a.choices
+ahead : (c : In-loop-h) → let a = c.args in CellChosen a.cuts.now.n c.loop-h.h a.cuts.now.table.now a.use_counts.now a.choices.now
 ahead c = c.loop-h.invariant.ahead c.loop-h-test.true
 
 room : (c : In-loop-h) → c.loop-h.count < 12
-room c = let l = c.loop-h in room_listed l.h l.count l.sizes l.cells l.invariant c.loop-h-test.true
-
-pub chosen_cell-cell-requires : goal.chosen_cell-cell-requires
-chosen_cell-cell-requires c = ahead c
+room c = let l = c.loop-h in room_listed c.args.cuts.now l.h l.count l.sizes l.cells l.invariant c.loop-h-test.true
 
 pub offset_bounds-sizes-count : goal.offset_bounds-sizes-count
 offset_bounds-sizes-count c = Fits-of_lt (let r = room (goal.at.offset_bounds-sizes-count c).In-loop-h in omega arith)
@@ -41,28 +36,25 @@ pub bounds-cells-count : goal.bounds-cells-count
 bounds-cells-count c = room (goal.at.bounds-cells-count c).In-loop-h
 
 -- The size of the cell that was found.
-is_size : (c : After-chosen_cell-cell) → c.chosen_cell-cell.result.group ≡ size_at c.args.choices c.loop-h.h
+is_size : (c : After-chosen_cell-cell) → c.chosen_cell-cell.result.group ≡ size_at c.args.choices.now c.loop-h.h
 unfolding chosen_cell
 is_size c = ap (λ cell. cell.group) c.chosen_cell-cell.ensures
 
 pub overflow_add-h : goal.overflow_add-h
-overflow_add-h c = Fits-of_lt (let e = is_size (goal.at.overflow_add-h c).After-chosen_cell-cell in let p = (places (ahead (goal.at.overflow_add-h c).In-loop-h)).1.0 in omega arith)
-
-pub overflow_add-count : goal.overflow_add-count
-overflow_add-count c = Fits-of_lt (let r = room (goal.at.overflow_add-count c).In-loop-h in omega arith)
+overflow_add-h c = Fits-of_lt (let e = is_size (goal.at.overflow_add-h c).After-chosen_cell-cell in let p = (places c.args.cuts.now (ahead (goal.at.overflow_add-h c).In-loop-h)).1.0 in omega arith)
 
 pub loop-h-smaller : goal.loop-h-smaller
-loop-h-smaller c = let e = is_size (goal.at.loop-h-smaller c).After-chosen_cell-cell in let m = moves (ahead (goal.at.loop-h-smaller c).In-loop-h) in omega arith
+loop-h-smaller c = let e = is_size (goal.at.loop-h-smaller c).After-chosen_cell-cell in let m = moves c.args.cuts.now (ahead (goal.at.loop-h-smaller c).In-loop-h) in omega arith
 
 pub loop-h-preserved : goal.loop-h-preserved
 unfolding chosen_cell
 loop-h-preserved c =
     let l = c.loop-h in
     let a = c.args in
-    subst⁻¹ (λ (cell : Cell). ListedTo a.n a.counts.now a.use_counts.now a.choices (l.h + cell.group) (l.count + 1) (set l.sizes l.count cell.group) (set l.cells l.count cell)) c.chosen_cell-cell.ensures
-    (one_listed l.h l.count l.sizes l.cells l.invariant c.loop-h-test.true)
+    subst⁻¹ (λ (cell : Cell). ListedTo a.cuts.now a.use_counts.now a.choices.now (l.h + cell.group) (l.count + 1) (set l.sizes l.count cell.group) (set l.cells l.count cell)) c.chosen_cell-cell.ensures
+    (one_listed a.cuts.now l.h l.count l.sizes l.cells l.invariant c.loop-h-test.true)
 
 pub returns : goal.returns
 returns c =
     let l = c.loop-h in
-    plan_listed l.h l.count l.sizes l.cells l.invariant c.loop-h-test.false c.args.bits
+    plan_listed c.args.cuts.now l.h l.count l.sizes l.cells l.invariant c.loop-h-test.false c.args.bits

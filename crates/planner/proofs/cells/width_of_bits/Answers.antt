@@ -1,8 +1,5 @@
 -- `cells::width_of_bits` meets its contract.
-use Prim.Native.Nat.{◌+◌, ◌-◌, ◌*◌, ◌/◌, ◌%◌, ◌^◌, ◌<◌}
-use mathlib.Core.Path.{◌≡◌, ◌∙◌, ap, ap₂}
-use native.Mathlib.Omega.{arith}
-use lib.Pow.{pow_pos}
+use Rattle.std.proofs.Common.{◌+◌, ◌-◌, ◌*◌, ◌/◌, ◌%◌, ◌^◌, ◌<◌, ◌≡◌, ◌∙◌, ap, ap₂, arith, pow_pos}
 use mir.Facts.{Fits-of_lt}
 use Rattle.numbers.specs.Widths.{rail_width}
 use Rattle.numbers.proofs.Laws.Pieces.{shifted_one}
@@ -26,9 +23,6 @@ overflow_shl-result c = narrow c
 
 pub nonzero_div-result : goal.nonzero_div-result
 nonzero_div-result c = rw (addresses c) (pow_pos (rail_width c.args.incoming + c.args.group))
-
-pub overflow_sub-result : goal.overflow_sub-result
-overflow_sub-result c = rw (addresses (goal.at.overflow_sub-result c).After-rail_width, c.rail_width-2.ensures) c.requires.whole
 
 pub returns : goal.returns
 unfolding width_of_bits

@@ -1,7 +1,4 @@
-use Prim.Native.Nat.{ℕ, ◌+◌, ◌-◌, ◌*◌, ◌^◌, ◌≤◌}
-use mathlib.Core.Path.{◌≡◌}
-use mathlib.Core.List.{List}
-use lib.IntN.{ℤ}
+use Rattle.std.proofs.Common.{ℕ, ◌+◌, ◌*◌, ◌^◌, ◌≤◌, ◌≡◌, List, ℤ}
 use Rattle.planner.specs.Inner.Extremes.{extremes_of}
 use Rattle.planner.proofs.prices.class_extremes.Given as goal
 
@@ -13,7 +10,4 @@ pub record Gathered (n h g class : ℕ) (table : List ℤ) (step start place : �
   pub extremes : record { least = low; greatest = high } ≡ extremes_of n table h g (class * 2 ^ g + passed)
 
 abbrev pub invariant-loop-place : goal.invariant-loop-place
-invariant-loop-place l = Gathered l.n l.h l.g l.class l.table l.step l.start l.place (l.least) (l.greatest)
-
-abbrev pub decreases-loop-place : goal.decreases-loop-place
-decreases-loop-place l = l.end - l.place
+invariant-loop-place l = Gathered l.cuts.n l.h l.g l.class l.cuts.table.now l.step l.start l.place (l.least) (l.greatest)

@@ -1,9 +1,6 @@
 -- `tops::next_top` meets its contract: it stays but where a multiple of 8 begins.
-use Prim.Native.Nat.{◌+◌, ◌<◌}
-use mathlib.Core.Path.{◌∙◌, ap}
-use native.Mathlib.Omega.{arith}
-use lib.Pow.{pow_mono}
-use mir.Facts.{to_z-of_z, Fits-of_lt}
+use Rattle.std.proofs.Common.{◌+◌, ◌<◌, ◌∙◌, ap, arith, pow_mono, to_z-of_z}
+use mir.Facts.{Fits-of_lt}
 use Rattle.diagram.proofs.Laws.Checks.{variables_range}
 use Rattle.report.specs.Inner.Tops.{top_at}
 use Rattle.report.proofs.Laws.Tops.{top_next}

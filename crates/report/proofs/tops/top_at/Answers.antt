@@ -1,8 +1,5 @@
 -- `tops::top_at` meets its contract.
-use Prim.Native.Nat.{◌-◌}
-use mathlib.Core.Path.{◌≡◌, sym, ◌∙◌, ap, ap₂, subst}
-use native.Mathlib.Omega.{arith}
-use mir.Facts.{to_z-of_z}
+use Rattle.std.proofs.Common.{◌-◌, ◌≡◌, sym, ◌∙◌, ap, ap₂, subst, arith, to_z-of_z}
 use Rattle.diagram.specs.Inner.Edges.{descend, root_of, PathReady}
 use Rattle.report.specs.Inner.Tops.{lowest_of, top_at}
 use Rattle.report.proofs.Laws.Tops.{lowest_within, root_ready}

@@ -1,9 +1,5 @@
 -- `tops::value_below` meets its contract.
-use mathlib.Core.Path.{◌≡◌, sym, ◌∙◌, ap, subst}
-use native.Mathlib.Omega.{arith}
-use mir.Syntax.{w32}
-use mir.Val.{of_z, to_z}
-use mir.Facts.{to_z-of_z}
+use Rattle.std.proofs.Common.{◌≡◌, sym, ◌∙◌, ap, subst, arith, w32, of_z, to_z, to_z-of_z}
 use Rattle.diagram.specs.Inner.Edges.{descend, PathReady}
 use Rattle.report.proofs.tops.value_below.Goals as goal
 

@@ -1,153 +1,121 @@
--- `weight_lists::sums_fit` meets its contract. The loop's invariant: the least and the greatest sum of the first j weights.
-use Prim.Native.Nat.{ℕ, ◌+◌, ◌*◌, ◌^◌, ◌≤◌, ◌<◌}
-use mathlib.Core.Path.{◌≡◌, refl, sym, ◌∙◌, ap, ap₂}
-use mathlib.Core.Bool.{true, false, ◌&&◌}
-use mathlib.Core.List.{List, [], ◌∷◌, ◌++◌}
-use native.Mathlib.Numerals.{add-one}
-use native.Mathlib.Omega.{arith}
-use lib.ListN.{length, get_or, take}
-use lib.Seq.{take-suc, take-length, length-take-le}
-use lib.IntN.{ℤ, pos, ◌+ℤ◌}
-use lib.Signed.{mag, lt_z}
-use mir.Syntax.{w32}
-use mir.Val.{SFits, of_z, to_z}
-use mir.Facts.{to_z-of_z, Fits-of_lt}
+-- `weight_lists::sums_fit` meets its contract. The loop's invariant: the least and the greatest sum of the first weights.
+use Rattle.std.specs.Prelude.{◌&&◌}
+use Rattle.std.specs.Int.Signed.{mag, lt_z}
+use Rattle.std.proofs.Common.{◌≡◌, refl, sym, ◌∙◌, ap, ap₂, true, false, ℕ, ◌+◌, ◌*◌, ◌^◌, ◌≤◌, ◌<◌, List, [], ◌∷◌, ◌++◌, length, get_or, take, ℤ, pos, ◌+ℤ◌, FitsSigned, to_z, of_z, w32, arith, add-one, take-suc, length-take-le}
+use Rattle.std.proofs.Math.Seq.{take-length}
+use Rattle.std.proofs.lemmas.Grind.{common_steps}
+use Rattle.std.proofs.lemmas.Int.{to_z-of_z}
 use Rattle.numbers.specs.Lists.{every, keep, exact_sum}
 use Rattle.numbers.specs.Ranges.{is_value}
 use Rattle.numbers.proofs.Laws.Bounds.{value_mag}
 use Rattle.numbers.proofs.Laws.Lists.{every_at}
 use Rattle.numbers.proofs.Laws.Machine.{mag_add}
-use Rattle.sums.specs.Sums.{least_sum, greatest_sum}
+use Rattle.sums.specs.Sums.{sum_table, least_sum, greatest_sum}
 use Rattle.sums.proofs.Laws.Extremes.{values_by_extremes, least_more, least_still, greatest_more, greatest_still, least_small, greatest_small}
-use Rattle.sums.proofs.Laws.Summable.{first_values}
+use Rattle.sums.proofs.Laws.Summable.{first_values, weight_read}
 use Rattle.sums.proofs.weight_lists.sums_fit.Goals as goal
-use Rattle.sums.proofs.weight_lists.sums_fit.Goals.{After-is_value, After-loop-j, After-weight-1, then-weight-lt0, else-weight-lt0}
+use Rattle.sums.proofs.weight_lists.sums_fit.Goals.{After-loop-weight, In-loop-weight, then-weight-lt0, else-weight-lt0}
 
-pub loop-j-init : goal.loop-j-init
+pub loop-weight-init : goal.loop-weight-init
 unfolding least_sum greatest_sum keep exact_sum
-loop-j-init c = record { most = omega arith; low = refl; high = refl }
-
-pub offset_bounds-weights-j : goal.offset_bounds-weights-j
-offset_bounds-weights-j c = Fits-of_lt (let t = c.loop-j-test.true in let f = c.requires.few in omega arith)
-
-pub bounds-weights-j : goal.bounds-weights-j
-bounds-weights-j c = c.loop-j-test.true
+loop-weight-init c = record { low = refl; high = refl }
 
 -- One weight more: it is added to the least sum where it is negative, else to the greatest.
-module _ (c : After-weight-1) where
+module _ (c : In-loop-weight) where
   abbrev weights : List ℤ
   weights = c.args.weights.now
 
   abbrev j : ℕ
-  j = c.loop-j.j
+  j = c.loop-weight.weight-index
 
   abbrev weight : ℤ
   weight = get_or weights j (pos 0)
 
+  abbrev so_far : List ℤ
+  so_far = take j weights
+
   inside : j < length weights
-  inside = c.loop-j-test.true
+  inside = c.loop-weight-test.true
 
   read : to_z w32 (of_z w32 weight) ≡ weight
-  read = to_z-of_z {w = w32} (record { sfits = c.weight-1.given })
+  read = weight_read weights j c.requires inside
 
-  one_more : take (j + 1) weights ≡ take j weights ++ weight ∷ []
+  one_more : take (j + 1) weights ≡ so_far ++ weight ∷ []
   one_more = ap (λ k. take k weights) (add-one j) ∙ take-suc weights j (pos 0) inside
 
   -- A sum of the first weights and this one is of 32 bits, whichever it is.
-  adds : (z : ℤ) → mag z ≤ length (take j weights) * 8388608 → SFits w32 (z +ℤ to_z w32 (of_z w32 weight))
+  adds : (z : ℤ) → mag z ≤ length so_far * 8388608 → FitsSigned w32 (z +ℤ weight)
   adds z small =
       let few = c.requires.few in
       let i = inside in
       let k = length-take-le j weights (omega arith) in
       let v = value_mag weight (every_at is_value weights (pos 0) c.requires.values j inside) in
       let m = mag_add z weight in
-      rw read (record { sfits = (let s : mag (z +ℤ weight) < 2 ^ 31 = omega arith in s) })
+      let s : mag (z +ℤ weight) < 2 ^ 31 = omega arith in
+      record { sfits = s }
 
-  first : every is_value (take j weights) ≡ true
+  first : every is_value so_far ≡ true
   first = first_values weights j c.requires.values
 
-  least_adds : SFits w32 (to_z w32 c.loop-j.least-bits +ℤ to_z w32 (of_z w32 weight))
-  least_adds = adds (to_z w32 c.loop-j.least-bits) (rw c.loop-j.invariant.low (least_small (take j weights) first))
+  least_adds : FitsSigned w32 (to_z w32 c.loop-weight.least-bits +ℤ weight)
+  least_adds = adds (to_z w32 c.loop-weight.least-bits) (rw c.loop-weight.invariant.low (least_small so_far first))
 
-  greatest_adds : SFits w32 (to_z w32 c.loop-j.greatest-bits +ℤ to_z w32 (of_z w32 weight))
-  greatest_adds = adds (to_z w32 c.loop-j.greatest-bits) (rw c.loop-j.invariant.high (greatest_small (take j weights) first))
+  greatest_adds : FitsSigned w32 (to_z w32 c.loop-weight.greatest-bits +ℤ weight)
+  greatest_adds = adds (to_z w32 c.loop-weight.greatest-bits) (rw c.loop-weight.invariant.high (greatest_small so_far first))
 
-  module _ (negative : lt_z (to_z w32 (of_z w32 weight)) (pos 0) ≡ true) where
-    under : lt_z weight (pos 0) ≡ true
-    under = ap (λ z. lt_z z (pos 0)) (sym read) ∙ negative
+  module _ (negative : lt_z weight (pos 0) ≡ true) where
+    least_added : to_z w32 c.loop-weight.least-bits +ℤ weight ≡ least_sum (take (j + 1) weights)
+    least_added = ap (λ z. z +ℤ weight) c.loop-weight.invariant.low ∙ sym (ap least_sum one_more ∙ least_more so_far weight negative)
 
-    least_added : to_z w32 c.loop-j.least-bits +ℤ to_z w32 (of_z w32 weight) ≡ least_sum (take (j + 1) weights)
-    least_added = ap₂ ◌+ℤ◌ c.loop-j.invariant.low read ∙ sym (ap least_sum one_more ∙ least_more (take j weights) weight under)
+    greatest_kept : to_z w32 c.loop-weight.greatest-bits ≡ greatest_sum (take (j + 1) weights)
+    greatest_kept = c.loop-weight.invariant.high ∙ sym (ap greatest_sum one_more ∙ greatest_still so_far weight negative)
 
-    greatest_kept : to_z w32 c.loop-j.greatest-bits ≡ greatest_sum (take (j + 1) weights)
-    greatest_kept = c.loop-j.invariant.high ∙ sym (ap greatest_sum one_more ∙ greatest_still (take j weights) weight under)
+  module _ (other : lt_z weight (pos 0) ≡ false) where
+    greatest_added : to_z w32 c.loop-weight.greatest-bits +ℤ weight ≡ greatest_sum (take (j + 1) weights)
+    greatest_added = ap (λ z. z +ℤ weight) c.loop-weight.invariant.high ∙ sym (ap greatest_sum one_more ∙ greatest_more so_far weight other)
 
-  module _ (other : lt_z (to_z w32 (of_z w32 weight)) (pos 0) ≡ false) where
-    over : lt_z weight (pos 0) ≡ false
-    over = ap (λ z. lt_z z (pos 0)) (sym read) ∙ other
-
-    greatest_added : to_z w32 c.loop-j.greatest-bits +ℤ to_z w32 (of_z w32 weight) ≡ greatest_sum (take (j + 1) weights)
-    greatest_added = ap₂ ◌+ℤ◌ c.loop-j.invariant.high read ∙ sym (ap greatest_sum one_more ∙ greatest_more (take j weights) weight over)
-
-    least_kept : to_z w32 c.loop-j.least-bits ≡ least_sum (take (j + 1) weights)
-    least_kept = c.loop-j.invariant.low ∙ sym (ap least_sum one_more ∙ least_still (take j weights) weight over)
+    least_kept : to_z w32 c.loop-weight.least-bits ≡ least_sum (take (j + 1) weights)
+    least_kept = c.loop-weight.invariant.low ∙ sym (ap least_sum one_more ∙ least_still so_far weight other)
 
 pub overflow_add-least : goal.overflow_add-least
-overflow_add-least c = least_adds (goal.at.overflow_add-least c).After-weight-1
+overflow_add-least c = let d = (goal.at.overflow_add-least c).In-loop-weight in rw (read d) (least_adds d)
 
 pub overflow_add-greatest : goal.overflow_add-greatest
-overflow_add-greatest c = greatest_adds (goal.at.overflow_add-greatest c).After-weight-1
+overflow_add-greatest c = let d = (goal.at.overflow_add-greatest c).In-loop-weight in rw (read d) (greatest_adds d)
 
-pub overflow_add-j : goal.overflow_add-j
-overflow_add-j c = Fits-of_lt (let i = inside (goal.at.overflow_add-j c).After-weight-1 in let f = c.requires.few in omega arith)
-
-pub loop-j-smaller : goal.loop-j-smaller
-loop-j-smaller c = let i = inside (goal.at.loop-j-smaller c).After-weight-1 in omega arith
-
-pub loop-j-preserved : goal.loop-j-preserved
-loop-j-preserved c =
-    let d = (goal.at.loop-j-preserved c).After-weight-1 in
+pub loop-weight-preserved : goal.loop-weight-preserved
+loop-weight-preserved c =
+    let d = (goal.at.loop-weight-preserved c).In-loop-weight in
     elim c.if-weight-lt0.branch [
-      | then-weight-lt0 w ↦ record {
-        most = (let i = inside d in omega arith);
-        low = w.least-is ∙ to_z-of_z (least_adds d) ∙ least_added d w.if-weight-lt0.true;
-        high = w.greatest-is ∙ greatest_kept d w.if-weight-lt0.true;
-      }
-      | else-weight-lt0 w ↦ record {
-        most = (let i = inside d in omega arith);
-        low = w.least-is ∙ least_kept d w.if-weight-lt0.false;
-        high = w.greatest-is ∙ to_z-of_z (greatest_adds d) ∙ greatest_added d w.if-weight-lt0.false;
-      }
+      | then-weight-lt0 w ↦
+          let negative = rw (read d) at w.if-weight-lt0.true in record {
+            low = rw (read d) at w.least-is ∙ to_z-of_z w32 _ (least_adds d) ∙ least_added d negative;
+            high = w.greatest-is ∙ greatest_kept d negative;
+          }
+      | else-weight-lt0 w ↦
+          let other = rw (read d) at w.if-weight-lt0.false in record {
+            low = w.least-is ∙ least_kept d other;
+            high = rw (read d) at w.greatest-is ∙ to_z-of_z w32 _ (greatest_adds d) ∙ greatest_added d other;
+          }
     ]
 
 -- All weights: both sums are judged.
-module _ (c : After-loop-j) where
-  abbrev all : List ℤ
-  all = c.args.weights.now
+module _ (c : After-loop-weight) where
+  whole : take c.loop-weight.weight-index c.args.weights.now ≡ c.args.weights.now
+  whole =
+      let all = c.args.weights.now in
+      let t = c.loop-weight-test.false in
+      let m = c.loop-weight.auto in
+      let last : c.loop-weight.weight-index ≡ length all = omega arith in
+      ap (λ k. take k all) last ∙ take-length all
 
-  whole : take c.loop-j.j all ≡ all
-  whole = ap (λ k. take k all) (let t = c.loop-j-test.false in let m = c.loop-j.invariant.most in let e : c.loop-j.j ≡ length all = omega arith in e) ∙ take-length all
-
-  least_is : to_z w32 c.loop-j.least-bits ≡ least_sum all
-  least_is = c.loop-j.invariant.low ∙ ap least_sum whole
-
-  greatest_is : to_z w32 c.loop-j.greatest-bits ≡ greatest_sum all
-  greatest_is = c.loop-j.invariant.high ∙ ap greatest_sum whole
-
-judged : (c : After-is_value) → to_z w32 c.loop-j.least-bits ≡ least_sum c.args.weights.now → c.is_value.result ≡ is_value (least_sum c.args.weights.now)
-judged c least = c.is_value.ensures ∙ ap is_value least
+  judged : every is_value (sum_table c.args.weights.now) ≡ (is_value (to_z w32 c.loop-weight.least-bits) && is_value (to_z w32 c.loop-weight.greatest-bits))
+  judged =
+      values_by_extremes c.args.weights.now
+      ∙ ap₂ (λ a b. is_value a && is_value b) (sym (c.loop-weight.invariant.low ∙ ap least_sum whole)) (sym (c.loop-weight.invariant.high ∙ ap greatest_sum whole))
 
 pub returns-then-is_value : goal.returns-then-is_value
-returns-then-is_value c =
-    let d = (goal.at.returns-then-is_value c).After-is_value in
-    let l = (goal.at.returns-then-is_value c).After-loop-j in
-    c.is_value-then-is_value.ensures
-    ∙ ap is_value (greatest_is l)
-    ∙ sym (values_by_extremes (all l) ∙ ap (λ b. b && is_value (greatest_sum (all l))) (sym (judged d (least_is l)) ∙ c.if-is_value.true))
+returns-then-is_value c = let law = judged (goal.at.returns-then-is_value c).After-loop-weight in grind (arith, common_steps)
 
 pub returns-else-is_value : goal.returns-else-is_value
-returns-else-is_value c =
-    let d = (goal.at.returns-else-is_value c).After-is_value in
-    let l = (goal.at.returns-else-is_value c).After-loop-j in
-    c.if-is_value.false
-    ∙ sym (values_by_extremes (all l) ∙ ap (λ b. b && is_value (greatest_sum (all l))) (sym (judged d (least_is l)) ∙ c.if-is_value.false))
+returns-else-is_value c = let law = judged (goal.at.returns-else-is_value c).After-loop-weight in grind (arith, common_steps)

@@ -1,17 +1,14 @@
 -- `lists::check_list` meets its contract: the checks in their order.
-use mir.Syntax.{w32}
-use mathlib.Core.Path.{◌≡◌, sym, ◌∙◌, ap}
-use mathlib.Core.Bool.{true}
-use mir.Facts.{to_z-of_z}
+use Rattle.std.proofs.Common.{w32, ◌≡◌, sym, ◌∙◌, ap, true, to_z-of_z}
 use Rattle.numbers.specs.Ranges.{is_variables, is_value}
 use Rattle.diagram.specs.Walk.{list_fits, of_list}
 use Rattle.diagram.specs.Inner.Checks.{list_checks}
-use Rattle.numbers.specs.Inner.Checks.{checked}
+use Rattle.numbers.specs.Refusals.{number, answer_of}
 use Rattle.walker.proofs.lists.check_list.Goals as goal
 use Rattle.walker.proofs.lists.check_list.Goals.{After-is_value, After-list_fits, Else-not-is_variables}
 
 pub returns-then-not-is_variables : goal.returns-then-not-is_variables
-unfolding list_checks of_list checked
+unfolding list_checks of_list number answer_of
 returns-then-not-is_variables c = rw (sym c.is_variables.ensures ∙ c.if-not-is_variables.true)
 
 -- What passed, check by check.
@@ -22,7 +19,7 @@ in_range : (c : After-is_value) → is_value c.args.offset ≡ c.is_value.result
 in_range c = sym (c.is_value.ensures ∙ ap is_value (to_z-of_z {w = w32} c.ranges.offset))
 
 pub returns-then-not-is_value : goal.returns-then-not-is_value
-unfolding list_checks of_list checked
+unfolding list_checks of_list number answer_of
 returns-then-not-is_value c = rw (variables (goal.at.returns-then-not-is_value c).Else-not-is_variables, in_range (goal.at.returns-then-not-is_value c).After-is_value ∙ c.if-not-is_value.true)
 
 pub list_fits-requires : goal.list_fits-requires
@@ -40,9 +37,9 @@ module _ (c : After-list_fits) where
   fits = sym c.list_fits.ensures
 
 pub returns-then-not-list_fits : goal.returns-then-not-list_fits
-unfolding list_checks of_list checked
+unfolding list_checks of_list number answer_of
 returns-then-not-list_fits c = let d = (goal.at.returns-then-not-list_fits c).After-list_fits in rw (accepted_variables d, accepted_start d, fits d ∙ c.if-not-list_fits.true)
 
 pub returns : goal.returns
-unfolding list_checks of_list checked
+unfolding list_checks of_list number answer_of
 returns c = let d = (goal.at.returns c).After-list_fits in rw (accepted_variables d, accepted_start d, fits d ∙ c.if-not-list_fits.false)

@@ -1,10 +1,6 @@
 -- `node_ranges::range_at` meets its contract.
-use mathlib.Core.Path.{◌≡◌, sym, ◌∙◌, ap₂}
-use native.Mathlib.Omega.{arith}
-use mir.Syntax.{w32}
-use mir.Facts.{to_z-of_z}
+use Rattle.std.proofs.Common.{◌≡◌, sym, ◌∙◌, ap₂, arith, w32, to_z-of_z}
 use borrow.Author.Rules.{sfits_of}
-use Rattle.diagram.specs.Records.{record_size}
 use Rattle.diagram.specs.Walk.{least_at, greatest_at}
 use Rattle.diagram.specs.Inner.Edges.{Recorded}
 use Rattle.diagram.proofs.Laws.NodeRanges.{range_terminal, range_record}
@@ -17,14 +13,6 @@ returns-then-k-eq0 c = sym (range_terminal c.args.records.now c.args.k c.if-k-eq
 -- Node k is a record.
 recorded : (c : Else-k-eq0) → Recorded c.args.records.now c.args.k
 recorded c = record { from_one = (let l = c.if-k-eq0.false in let p : c.args.k ≡ 0 → ⊥ = l in omega arith); among = c.requires }
-
-pub number_at-requires : goal.number_at-requires
-unfolding record_size
-number_at-requires c = (recorded c, omega arith)
-
-pub number_at-requires-2 : goal.number_at-requires-2
-unfolding record_size
-number_at-requires-2 c = (recorded (goal.at.number_at-requires-2 c).Else-k-eq0, omega arith)
 
 pub returns : goal.returns
 unfolding least_at greatest_at

@@ -1,28 +1,16 @@
 -- `node_ranges::range_from` meets its contract.
-use Prim.Native.Nat.{ℕ, ◌≤◌, ◌<◌}
-use mathlib.Core.Path.{◌≡◌, sym, ◌∙◌, ap, ap₂, subst}
-use mathlib.Core.List.{List}
-use native.Mathlib.Omega.{arith}
-use lib.IntN.{ℤ, pos, nat_abs, ◌+ℤ◌}
-use lib.Signed.{mag}
-use mir.Syntax.{w32}
-use mir.Val.{SFits, of_z, to_z}
-use mir.Facts.{to_z-of_z}
+use Rattle.std.proofs.Common.{ℕ, ◌≤◌, ◌<◌, ◌≡◌, sym, ◌∙◌, ap, ap₂, subst, List, arith, ℤ, pos, nat_abs, ◌+ℤ◌, w32, SFits, of_z, to_z, to_z-of_z}
+use Rattle.std.specs.Int.Signed.{mag}
 use borrow.Author.Rules.{sfits_of}
 use Rattle.numbers.specs.Ranges.{lesser, greater}
 use Rattle.numbers.proofs.Laws.Bounds.{weight_mag}
 use Rattle.numbers.proofs.Laws.Machine.{mag_add}
-use Rattle.diagram.specs.Records.{record_size}
 use Rattle.diagram.specs.Walk.{number_at, low_at, high_at, weight_at}
 use Rattle.diagram.specs.Inner.Edges.{range_at, range_by, range_from}
 use Rattle.diagram.specs.declared.Range.{Range}
 use Rattle.diagram.proofs.Laws.Checks.{child_node, cast_natural}
 use Rattle.walker.proofs.node_ranges.range_from.Goals as goal
 use Rattle.walker.proofs.node_ranges.range_from.Goals.{After-number_at, After-number_at-2, After-number_at-weight}
-
-pub number_at-requires : goal.number_at-requires
-unfolding record_size
-number_at-requires c = (c.requires.here, omega arith)
 
 -- The children that are read.
 low_read : (list : List ℤ) (k : ℕ) (z : ℤ) → z ≡ number_at list k 1 → z ≡ low_at list k
@@ -49,10 +37,6 @@ pub range_at-low-requires : goal.range_at-low-requires
 range_at-low-requires c =
     rw (low_is c) (let l = (child_node c.args.records.now c.args.k (low_at c.args.records.now c.args.k) c.requires.low).1 in let b = c.requires.here.among in omega arith)
 
-pub number_at-requires-2 : goal.number_at-requires-2
-unfolding record_size
-number_at-requires-2 c = (c.requires.here, omega arith)
-
 pub overflow_cast-number_at-2 : goal.overflow_cast-number_at-2
 overflow_cast-number_at-2 c =
     rw (to_z-of_z {w = w32} (sfits_of c.number_at-2.type_inv))
@@ -61,10 +45,6 @@ overflow_cast-number_at-2 c =
 pub range_at-high-requires : goal.range_at-high-requires
 range_at-high-requires c =
     rw (high_is c) (let l = (child_node c.args.records.now c.args.k (high_at c.args.records.now c.args.k) c.requires.high).1 in let b = c.requires.here.among in omega arith)
-
-pub number_at-weight-requires : goal.number_at-weight-requires
-unfolding record_size
-number_at-weight-requires c = (c.requires.here, omega arith)
 
 -- What was read of the record and its children.
 module _ (c : After-number_at-weight) where

@@ -1,15 +1,8 @@
 -- `paths::edge_at` meets its contract.
-use Prim.Native.Nat.{◌/◌, ◌%◌, ◌^◌, ◌≤◌}
-use mathlib.Core.Path.{◌≡◌, sym, ◌∙◌, ap, ap₂}
-use native.Mathlib.Omega.{arith}
-use lib.IntN.{pos, nat_abs}
-use mir.Syntax.{w32}
-use mir.Val.{of_z}
-use mir.Facts.{to_z-of_z}
+use Rattle.std.proofs.Common.{◌/◌, ◌%◌, ◌^◌, ◌≤◌, ◌≡◌, sym, ◌∙◌, ap, ap₂, arith, pos, nat_abs, w32, of_z, to_z-of_z}
 use borrow.Author.Rules.{sfits_of}
 use borrow.Author.Tests.{eq-eqb, ne_eqb}
 use Rattle.numbers.proofs.Laws.Machine.{same_bits}
-use Rattle.diagram.specs.Records.{record_size}
 use Rattle.diagram.specs.Walk.{variable_at, low_at, high_at, weight_at, bit_set}
 use Rattle.diagram.specs.Inner.Edges.{Recorded}
 use Rattle.diagram.proofs.Laws.Checks.{cast_natural, child_node}
@@ -25,10 +18,6 @@ one c = let h = c.if-k-eq0.false in omega arith
 
 recorded : (c : Else-k-eq0) → Recorded c.args.records.now c.args.k
 recorded c = record { from_one = one c; among = c.requires.1.known }
-
-pub number_at-requires : goal.number_at-requires
-unfolding record_size
-number_at-requires c = (recorded c, omega arith)
 
 -- Whether the record has variable i.
 module _ (c : After-number_at) where
@@ -47,14 +36,6 @@ own c =
     sym c.number_at.ensures
     ∙ same_bits w32 c.number_at.result (pos c.args.i) (sfits_of c.number_at.type_inv) (record { sfits = omega arith }) c.if-number_at-i.false
 
-pub number_at-requires-then-x-i-eq1 : goal.number_at-requires-then-x-i-eq1
-unfolding record_size
-number_at-requires-then-x-i-eq1 c = (recorded (goal.at.number_at-requires-then-x-i-eq1 c).Else-k-eq0, omega arith)
-
-pub number_at-requires-then-x-i-eq1-2 : goal.number_at-requires-then-x-i-eq1-2
-unfolding record_size
-number_at-requires-then-x-i-eq1-2 c = (recorded (goal.at.number_at-requires-then-x-i-eq1-2 c).Else-k-eq0, omega arith)
-
 pub overflow_cast-result : goal.overflow_cast-result
 unfolding high_at
 overflow_cast-result c =
@@ -71,10 +52,6 @@ returns-then-x-i-eq1 c =
     let a = e.args in
     ap₂ (λ w k. record { weight = w; node = nat_abs k }) (to_z-of_z {w = w32} (sfits_of c.number_at-then-x-i-eq1.type_inv) ∙ c.number_at-then-x-i-eq1.ensures) (to_z-of_z {w = w32} (sfits_of c.number_at-then-x-i-eq1-2.type_inv) ∙ c.number_at-then-x-i-eq1-2.ensures)
     ∙ sym (edge_high a.records.now a.i a.k a.x (one e) (own (goal.at.returns-then-x-i-eq1 c).Else-number_at-i) (eq-eqb (a.x / 2 ^ a.i % 2) 1 c.if-x-i-eq1.true))
-
-pub number_at-requires-2 : goal.number_at-requires-2
-unfolding record_size
-number_at-requires-2 c = (recorded (goal.at.number_at-requires-2 c).Else-k-eq0, omega arith)
 
 pub overflow_cast-result-2 : goal.overflow_cast-result-2
 unfolding low_at

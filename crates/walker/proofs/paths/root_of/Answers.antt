@@ -1,9 +1,5 @@
 -- `paths::root_of` meets its contract.
-use mir.Syntax.{w32}
-use Prim.Native.Nat.{◌/◌}
-use mathlib.Core.Path.{ap}
-use lib.ListN.{length}
-use mir.Facts.{to_z-of_z}
+use Rattle.std.proofs.Common.{w32, ◌/◌, ap, length, to_z-of_z}
 use Rattle.diagram.specs.Records.{record_size}
 use Rattle.diagram.specs.Walk.{record_count}
 use Rattle.diagram.specs.Inner.Edges.{root_of}

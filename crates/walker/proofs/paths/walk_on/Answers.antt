@@ -1,13 +1,7 @@
 -- `paths::walk_on` meets its contract. The loop's invariant: what is left to read leads to the same end.
-use Prim.Native.Nat.{ℕ, ◌<◌, suc, ◌+◌, ◌-◌}
-use mathlib.Core.Path.{◌≡◌, refl, sym, ◌∙◌, ap, ap₂, subst}
-use mathlib.Core.List.{List}
-use native.Mathlib.Omega.{arith}
-use lib.IntN.{ℤ, ◌+ℤ◌}
-use lib.Signed.{mag}
-use mir.Syntax.{w32}
-use mir.Val.{SFits, of_z, to_z}
-use mir.Facts.{to_z-of_z, Fits-of_lt}
+use Rattle.std.proofs.Common.{ℕ, ◌<◌, suc, ◌+◌, ◌-◌, ◌≡◌, refl, sym, ◌∙◌, ap, ap₂, subst, List, arith, ℤ, ◌+ℤ◌, w32, SFits, of_z, to_z, to_z-of_z}
+use Rattle.std.specs.Int.Signed.{mag}
+use Rattle.std.proofs.Common.{}
 use borrow.Author.Rules.{sfits_of}
 use Rattle.diagram.specs.Inner.Edges.{edge_at, descend, PathReady}
 use Rattle.diagram.specs.declared.Waypoint.{Waypoint}
@@ -21,12 +15,6 @@ entered value fits = to_z-of_z {w = w32} (sfits_of fits)
 
 pub loop-left-init : goal.loop-left-init
 loop-left-init c = record { ready = subst (λ z. PathReady c.args.records.now c.args.low c.args.count (record { value = z; node = c.args.reached.node })) (sym (entered c.args.reached.value (omega arith))) c.requires; leads = refl }
-
-pub overflow_sub-left : goal.overflow_sub-left
-overflow_sub-left c = c.loop-left-test.true
-
-pub overflow_add-low : goal.overflow_add-low
-overflow_add-low c = let h = c.loop-left.invariant.ready.height in let l = c.loop-left-test.true in Fits-of_lt (omega arith)
 
 pub edge_at-edge-requires : goal.edge_at-edge-requires
 edge_at-edge-requires c =
@@ -73,9 +61,6 @@ overflow_add-value c =
     let e = (goal.at.overflow_add-value c).After-edge_at-edge in
     let fits : mag c.edge_at-edge.result.weight < 2147483648 = omega arith in
     subst (SFits w32) (sym (sum_is e fits)) (sum_fits e fits)
-
-pub loop-left-smaller : goal.loop-left-smaller
-loop-left-smaller c = let l = c.loop-left-test.true in omega arith
 
 pub loop-left-preserved : goal.loop-left-preserved
 loop-left-preserved c =

@@ -1,7 +1,4 @@
-use Prim.Native.Nat.{ℕ}
-use mathlib.Core.Path.{◌≡◌}
-use mathlib.Core.List.{List}
-use lib.IntN.{ℤ}
+use Rattle.std.specs.Prelude.{ℕ, ◌≡◌, List, ℤ}
 use Rattle.diagram.specs.Inner.Edges.{descend, PathReady}
 use Rattle.diagram.specs.declared.Waypoint.{Waypoint}
 use Rattle.walker.proofs.paths.walk_on.Given as goal
@@ -13,6 +10,3 @@ pub record OnTheWay (list : List ℤ) (low left x : ℕ) (reached due : Waypoint
 
 abbrev pub invariant-loop-left : goal.invariant-loop-left
 invariant-loop-left l = OnTheWay l.records l.low l.left l.x (record { value = l.value; node = l.node }) (descend l.records l.low l.count l.x (record { value = l.initial.value; node = l.initial.node }))
-
-abbrev pub decreases-loop-left : goal.decreases-loop-left
-decreases-loop-left l = l.left

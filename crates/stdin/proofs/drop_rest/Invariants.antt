@@ -1,5 +1,0 @@
--- The measure is the number of turns that are left.
-use Rattle.stdin.proofs.drop_rest.Given as goal
-
-abbrev pub decreases-loop-turns : goal.decreases-loop-turns
-decreases-loop-turns g l = l.turns

@@ -66,11 +66,10 @@ def main():
                 heads = re.findall(r'^    (\w+)(\(|\{| \{|,)', variants, re.M)
                 if len(heads) == 2:
                     note('1a enums of two variants (Option, Result)', k, code.strip())
-            if re.search(r'\bRefused\(\d+\)|\brefus\w+\(\d+\)|not_compiled\(\d+\)|u8$', code) and re.search(r'\(\d+\)', code):
+            if re.search(r'\bRefused\(\d+\)|refus\w*\((?:[^)]*\W)?\d+\)|not_compiled\(\d+\)', code):
                 note('1b refusals by a number', k, code.strip())
-            if re.search(r'match .*\{$', code) or re.search(r'\bRefused\(\w+\) => ', code):
-                if re.search(r'Refused\(\w+\) =>', code):
-                    note('1c refusals handed on by a match', k, code.strip())
+            if re.search(r'\b(Refused|Err)\(\w+\) =>', code):
+                note('1c refusals handed on by a match', k, code.strip())
             if re.match(r'\s*(let \w+ = )?(while|loop)\b', code):
                 note('3 loops by hand', k, code.strip())
             if re.search(r'\bif (\w+) (<=|<) (\w+) \{ \1 \} else \{ \3 \}|\bif (\w+) (<=|<) (\w+) \{ \6 \} else \{ \4 \}', code):

@@ -32,7 +32,7 @@ fn block_branches(table: &[i32], i: usize, j: usize) -> bool
 }
 
 // Whether class c of cut h branches, seen at its first block.
-// Kept: a table and a row side by side, since it does not read all that `Cuts` asks for.
+// Kept: a table and a row side by side; docs/DECISIONS.md names it as open, and a `Cuts` asks for more than they hold.
 pub fn class_branches(n: usize, h: usize, c: usize, table: &[i32], firsts: &[usize]) -> bool
     requires { ClassOfCut n h c table.now firsts.now }
     ensures { result ≡ branches (n - suc h) (class_at n table.now h c) }

@@ -51,6 +51,7 @@ pub struct Planned {
 
 // Compile's answer: the image's length, the node count, and Plan's cells with their count and their bits. The image stands in the
 // lent buffer.
+// Kept: an array beside its count, here and in `Planned`, since no operation allocates.
 #[derive(Clone, Copy)]
 pub struct Compiled {
     pub length: usize,

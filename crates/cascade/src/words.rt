@@ -12,8 +12,8 @@ fn word_block(h: usize, g: usize, k: usize, firsts: &[usize]) -> usize
     blocks::in_cut(firsts, h, k / values) * values + k % values
 }
 
-// Kept: a table and its rows side by side, here and in word_class, since neither reads all that `Cuts` asks for.
 // The weight of word k: the first value of its block less that of the block at cut h around it.
+// Kept: a table and a row side by side; docs/DECISIONS.md names it as open, and a `Cuts` asks for more than they hold.
 pub fn word_weight(n: usize, h: usize, g: usize, k: usize, table: &[i32], firsts: &[usize]) -> i32
     requires { WordReady n h g k table.now firsts.now }
     ensures { result ≡ (cell_word n table.now h g k).weight }
@@ -24,6 +24,7 @@ pub fn word_weight(n: usize, h: usize, g: usize, k: usize, table: &[i32], firsts
 }
 
 // The class of word k.
+// Kept: a table and its rows side by side, as in word_weight.
 pub fn word_class(
     n: usize,
     h: usize,

@@ -22,7 +22,7 @@ use cases::tally::Tally;
 fn judge_rows(numbers: &[i32], first: &[i32], second: &[i32], third: &[i32]) -> bool
     ensures { result ≡ rows_pass numbers.now first.now second.now third.now }
 {
-    // Kept: the numbers stand in the text of the cases, and a table of closures would name each operation once more.
+    // Kept: the numbers stand in the text of the cases; a table of closures or an enum of operations would name each once more.
     match cases::rows::size_at(numbers, 0) {
         1 => cases::diagrams::build(numbers, first, second),
         2 => cases::diagrams::walk(numbers, first),

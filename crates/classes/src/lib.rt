@@ -13,7 +13,7 @@ ghost use Rattle.classes.specs.Inner.Searched.{SearchRoom, AllSearched};
 
 // The classes of all cuts: each block's class, each class's first block, the class count of each cut, and what the search tells of
 // each block and of each class.
-// Kept: a row beside each other, as the C interface lends them.
+// Kept: rows side by side, as the C interface lends them.
 pub fn class_cuts(
     n: usize,
     table: &[i32],
@@ -48,6 +48,7 @@ pub fn class_cuts(
 }
 
 // The same, where of what the search tells only the use counts are asked for.
+// Kept: rows side by side, since each is lent to be written into.
 pub fn class_table(
     n: usize,
     table: &[i32],

@@ -20,6 +20,7 @@ fn write_node(text: &mut [u8], at: usize, k: usize, nodes: &[i32]) -> usize
 }
 
 // The lines of the first so many records at a place, by rising number. Answers the place behind them.
+// Kept: a count of records beside their numbers, here and in write_diagram, since a slice would have to be divided by six to count them.
 fn write_nodes(text: &mut [u8], at: usize, nodes: &[i32], count: usize) -> usize
     requires records_there { RecordsThere nodes.now count }
     requires count_in_bounds { at + length (record_lines nodes.now count) ≤ length text.old }

@@ -13,6 +13,7 @@ ghost use Rattle.reach.specs.Inner.Checks.{call_checks};
 use numbers::Refusal;
 
 // Reach's answer: how many cuts there are, the least address limit that fits, and the cuts, 0 past the last one.
+// Kept: an array beside its count, since no operation allocates.
 #[derive(Clone, Copy)]
 pub struct Reached {
     pub count: usize,

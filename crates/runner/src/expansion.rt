@@ -5,7 +5,7 @@ ghost use Rattle.image.specs.Inner.Evaluation.{Accepted, card_read, classes_belo
 
 // What a cell makes of the class and the value of each block of the cut above it: those of the first so many blocks of the cut
 // below, each by its word. From the last block down, what is still to be read stands no further right than what is written.
-// Kept: a row beside the table, since both are read and written here.
+// Kept: a row beside the table, since both are lent to be written into.
 #[tactic(auto, unfolding(numbers::specs::Ranges::most_variables))]
 fn spread(
     image: &[u8],

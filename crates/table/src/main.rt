@@ -49,6 +49,7 @@ fn main(rt: HostRuntime) {
     };
     if count == KEPT {
         let _ = eprintln!(rt; "expected a text of at most 1048576 bytes");
+        // Kept: the number is this program's own; what reading a text tells ends at 105.
         messages::print_refusal(&rt, 106);
         return;
     }

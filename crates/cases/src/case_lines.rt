@@ -24,10 +24,7 @@ pub fn read_row(line: &[u8], row: &mut [i32]) -> usize
             return count;
         };
         row[count] = item.number;
-        place = Position {
-            at: item.at,
-            line: item.line,
-        };
+        place = Position::from(item);
     }
     row.len()
 }

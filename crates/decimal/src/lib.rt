@@ -10,6 +10,7 @@ pub mod words;
 ghost use Rattle.std.specs.Prelude.{◌≡◌};
 ghost use Rattle.decimal.specs.declared.ParseError.TheVariants as errors;
 ghost use Rattle.decimal.specs.Table.{Reads, refusal_number};
+ghost use Rattle.decimal.specs.Inner.Positions.{PositionIn};
 ghost use Rattle.decimal.specs.Inner.Values.{table_at, limit_at, Answers, BodyReady, LimitReady};
 
 use std::fmt;
@@ -94,10 +95,42 @@ pub struct Item {
     pub at: usize,
 }
 
+// The place behind a number.
+impl From<Item> for Position {
+    ghost from_gives = { λ item place. place ≡ record { at = item.at; line = item.line } };
+
+    fn from(item: Item) -> Position {
+        Position {
+            at: item.at,
+            line: item.line,
+        }
+    }
+}
+
 // The line of the word that comes next in a text and is no number of 32 bits, or of the text's end.
 #[derive(Clone, Copy, Debug, PartialEq, Eq)]
 pub struct NoNumber {
     pub line: usize,
+}
+
+// What is left of a text from a place of its first line on.
+#[derive(Clone, Copy)]
+struct FirstLine<'a> {
+    text: &'a [u8],
+    at: usize,
+    ghost inside: { PositionIn text.now (record { at = at; line = 1 }) },
+}
+
+impl FirstLine<'_> {
+    // The place, and its line.
+    fn place(&self) -> Position
+        ensures { result ≡ record { at = self.now.at; line = 1 } }
+    {
+        Position {
+            at: self.at,
+            line: 1,
+        }
+    }
 }
 
 // A number in its range on the first line, with the place behind it.
@@ -111,38 +144,36 @@ struct Heading {
 pub const INPUT_ROOM: usize = 2 + 4 * numbers::MOST_VALUES;
 
 // The values, from the place behind n and the limit, and the input's bytes. Answers how many there are.
-fn parse_values(
-    text: &[u8],
-    at: usize,
-    n: usize,
-    limit: usize,
-    input: &mut [u8],
-) -> Result<usize, Wrong>
-    requires { BodyReady text.now at n limit input.old }
-    ensures { Answers (table_at text.now at n limit) input.old result input.new }
+fn parse_values(rest: &FirstLine, n: usize, limit: usize, input: &mut [u8]) -> Result<usize, Wrong>
+    requires { BodyReady n limit input.old }
+    ensures { Answers (table_at rest.now.text.now rest.now.at n limit) input.old result input.new }
 {
     let mut row = [0i32; numbers::MOST_VALUES];
     let count = numbers::arithmetic::power(n);
-    crate::values::read_values(text, at, count, &mut row)?;
+    crate::values::read_values(rest, count, &mut row)?;
     Ok(crate::values::write_input(input, n, limit, &row[..count]))
 }
 
 // What follows n, from the place behind it: the limit, nothing more on the first line, and the values.
-fn parse_limit(text: &[u8], at: usize, n: usize, input: &mut [u8]) -> Result<usize, Wrong>
-    requires { LimitReady text.now at n input.old }
-    ensures { Answers (limit_at text.now at n) input.old result input.new }
+fn parse_limit(rest: &FirstLine, n: usize, input: &mut [u8]) -> Result<usize, Wrong>
+    requires { LimitReady n input.old }
+    ensures { Answers (limit_at rest.now.text.now rest.now.at n) input.old result input.new }
 {
-    let limit = crate::headings::heading(text, at, 0, 255).ok_or(Wrong {
+    let limit = crate::headings::heading(rest, 0, 255).ok_or(Wrong {
         line: 1,
         expected: Expected::Limit,
     })?;
-    if crate::headings::has_more(text, limit.at) {
+    let behind = FirstLine {
+        text: rest.text,
+        at: limit.at,
+    };
+    if crate::headings::has_more(&behind) {
         return Err(Wrong {
             line: 1,
             expected: Expected::LineEnd,
         });
     }
-    parse_values(text, limit.at, n, limit.number, input)
+    parse_values(&behind, n, limit.number, input)
 }
 
 // The listing's input of the table that a text gives, written into the lent buffer where that holds every input. Answers its
@@ -153,9 +184,11 @@ pub fn parse(text: &[u8], input: &mut [u8]) -> Result<usize, ParseError>
     if input.len() < INPUT_ROOM {
         return Err(ParseError::TooShort);
     }
-    let n = crate::headings::heading(text, 0, 1, 12).ok_or(Wrong {
+    let start = FirstLine { text, at: 0 };
+    let n = crate::headings::heading(&start, 1, 12).ok_or(Wrong {
         line: 1,
         expected: Expected::Variables,
     })?;
-    Ok(parse_limit(text, n.at, n.number, input)?)
+    let rest = FirstLine { text, at: n.at };
+    Ok(parse_limit(&rest, n.number, input)?)
 }

@@ -5,7 +5,7 @@ ghost use Rattle.decimal.specs.Table.{input_of};
 ghost use Rattle.decimal.specs.Inner.Positions.{PositionIn};
 ghost use Rattle.decimal.specs.Inner.Values.{values_at, body_judged, ReadsValues, InputReady};
 
-use crate::{Expected, Position, Wrong};
+use crate::{Expected, FirstLine, Position, Wrong};
 
 // That no word is left from a place on.
 #[tactic(auto, using(crate::proofs::Laws::Positions::skipped_none, crate::proofs::Laws::Positions::skipped_word), unfolding(crate::specs::Inner::Values::body_judged, crate::specs::Table::values_read))]
@@ -25,29 +25,20 @@ fn check_end(text: &[u8], place: Position) -> Result<(), Wrong>
 
 // So many values from a place of the first line on, into the front of the lent row, and then nothing more. Where the text goes
 // wrong the row has those before.
-pub(crate) fn read_values(
-    text: &[u8],
-    at: usize,
-    count: usize,
-    values: &mut [i32],
-) -> Result<(), Wrong>
-    requires position_in { PositionIn text.now (record { at = at; line = 1 }) }
-    requires count_in_bounds { count ≤ length values.old }
-    ensures { ReadsValues text.now (record { at = at; line = 1 }) count values.old result values.new }
+pub(crate) fn read_values(rest: &FirstLine, count: usize, values: &mut [i32]) -> Result<(), Wrong>
+    requires { count ≤ length values.old }
+    ensures { ReadsValues rest.now.text.now (record { at = rest.now.at; line = 1 }) count values.old result values.new }
 {
-    let mut place = Position { at, line: 1 };
+    let mut place = rest.place();
     for j in 0..count {
-        let item = crate::words::next_item(text, place).map_err(|none| Wrong {
+        let item = crate::words::next_item(rest.text, place).map_err(|none| Wrong {
             line: none.line,
             expected: Expected::Value,
         })?;
         values[j] = item.number;
-        place = Position {
-            at: item.at,
-            line: item.line,
-        };
+        place = Position::from(item);
     }
-    check_end(text, place)
+    check_end(rest.text, place)
 }
 
 // The bytes of a table, in front. Answers how many there are.

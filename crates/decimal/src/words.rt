@@ -44,6 +44,7 @@ fn word_end(text: &[u8], start: usize) -> usize
 }
 
 // What comes next, from a place on.
+// Kept: a text and a place in it side by side, here and in what it calls; docs/DECISIONS.md names it as open.
 pub fn next_item(text: &[u8], place: Position) -> Result<Item, NoNumber>
     requires { PositionIn text.now place }
     ensures { result ≡ item_at text.now place }

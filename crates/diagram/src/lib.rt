@@ -28,7 +28,7 @@ pub struct Waypoint {
 }
 
 // The least and the greatest value of a function.
-#[derive(Clone, Copy)]
+#[derive(Clone, Copy, PartialEq, Eq)]
 pub struct Range {
     pub least: i32,
     pub greatest: i32,

@@ -17,6 +17,7 @@ pub extern "C" fn panstrait_plan(
     let planned = planner::plan(n, table, limit);
     match planned.verdict {
         Ok(grouping) => {
+            // Kept: by a name, since the proof does not close where the field itself is written.
             let chosen = planned.sizes;
             *sizes = chosen;
             *cells = cascade::cell_rows::cell_rows(planned.cells);

@@ -15,6 +15,7 @@ pub extern "C" fn panstrait_reach(
 {
     match reach::reach(n, table, limit) {
         Ok(reached) => {
+            // Kept: by a name, since the proof does not close where the field itself is written.
             let list = reached.cuts;
             *cuts = list;
             *count = reached.count;

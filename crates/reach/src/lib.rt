@@ -10,6 +10,7 @@ ghost use Rattle.numbers.specs.Refusals.{answer_of};
 ghost use Rattle.reach.specs.Reach.{Reaches};
 ghost use Rattle.reach.specs.Inner.Checks.{call_checks};
 
+use diagram::cuts::Cuts;
 use numbers::Refusal;
 
 // Reach's answer: how many cuts there are, the least address limit that fits, and the cuts, 0 past the last one.
@@ -41,15 +42,21 @@ pub fn reach(n: usize, table: &[i32], limit: usize) -> Result<Reached, Refusal>
     let mut counts = [0usize; blocks::ALL_CUTS];
     let mut use_counts = [0usize; blocks::ALL_PLACES];
     check_call(n, table, limit)?;
-    let cuts = n + 1;
-    let places = numbers::arithmetic::power(cuts) - 1;
+    let places = numbers::arithmetic::power(n + 1) - 1;
     classes::class_table(
         n,
         table,
         &mut classes[..places],
         &mut firsts[..places],
-        &mut counts[..cuts],
+        &mut counts[..=n],
         &mut use_counts[..places],
     );
-    Ok(crate::counts::reach_counts(n, limit, &counts[..cuts]))
+    let cuts = Cuts {
+        n,
+        table,
+        classes: &classes[..places],
+        firsts: &firsts[..places],
+        counts: &counts[..=n],
+    };
+    Ok(crate::counts::reach_counts(&cuts, limit))
 }

@@ -13,7 +13,7 @@ ghost use Rattle.image.specs.Inner.Bounds.{WithinBounds, IsDue};
 ghost use Rattle.image.specs.Inner.GivenN.{has_other_n};
 ghost use Rattle.image.specs.Reader.{judged, step, reading, reading_for};
 
-use image::{Command, Place};
+use image::{Command, Kind, Place};
 use numbers::Refusal;
 
 // What is judged of a command whose operands are all there.
@@ -32,6 +32,8 @@ fn judge(image: &[u8], place: Place, command: Command) -> Result<(Command, Place
 }
 
 // One step of the reader, in the paper's order of checks.
+// Kept: what bounds a place is required of it here and in the rules, and is no part of it, since image's `Reader.place_after` makes a place
+// of any place and command.
 #[tactic(auto, using(std::proofs::lemmas::Bool::Decides::nat_tests), unfolding(image::specs::Reader::step, numbers::specs::Refusals::answer_of, numbers::specs::Refusals::number))]
 fn read_step(image: &[u8], place: Place) -> Result<(Command, Place), Refusal>
     requires { WithinBounds place }
@@ -69,12 +71,12 @@ pub fn check(image: &[u8]) -> Result<(), Refusal>
 }
 
 // Whether a whole 0x56 stands first and carries another n: 13, whatever else is wrong with it.
-#[tactic(auto, using(std::proofs::lemmas::Bool::Decides::nat_tests), unfolding(image::specs::Inner::GivenN::has_other_n))]
+#[tactic(auto, using(std::proofs::lemmas::Bool::Decides::nat_tests), unfolding(image::specs::Inner::GivenN::has_other_n, image::specs::Inner::Kinds::due_of, image::specs::Reader::due_byte))]
 fn has_other_n(image: &[u8], n: usize) -> bool
     ensures { result ≡ has_other_n n image.now }
 {
     image::TABLE_SIZE <= image.len()
-        && operands::byte(image, 0) == 0x56
+        && image[0] == Kind::Table.byte()
         && operands::byte(image, 1) != n
 }
 

@@ -5,10 +5,10 @@
 mod tops;
 
 ghost use Rattle.std.specs.Prelude.{◌≡◌, true, ◌<◌};
-ghost use Rattle.diagram.specs.Inner.Edges.{Passing};
 ghost use Rattle.report.specs.Report.{values_from, figures_of, figures_in, is_part, report, reported};
 
 use numbers::Refusal;
+use walker::lists::RecordList;
 
 // What the report answers: how many values there are, the least, the greatest and the sum of them.
 #[derive(Clone, Copy, Debug, PartialEq, Eq)]
@@ -29,21 +29,21 @@ fn is_part(n: usize, a: usize, b: usize) -> bool
 }
 
 // The figures of the values at X from a to b.
-fn figures(n: usize, offset: i32, records: &[i32], a: usize, b: usize) -> Reported
-    requires { Passing n offset records.now × (is_part n a b ≡ true) }
-    ensures { figures_in result ≡ figures_of (values_from n offset records.now a b) }
+fn figures(list: &RecordList, a: usize, b: usize) -> Reported
+    requires { is_part list.now.n a b ≡ true }
+    ensures { figures_in result ≡ figures_of (values_from list.now.n list.now.offset list.now.records.now a b) }
 {
-    let mut top = crate::tops::top_at(n, offset, records, a);
-    let first = crate::tops::value_below(n, records, top, a);
+    let mut top = crate::tops::top_at(list, a);
+    let first = crate::tops::value_below(list, top, a);
     let mut least = first;
     let mut greatest = first;
-    let mut sum = first as i64;
+    let mut sum = i64::from(first);
     for x in a..b {
-        top = crate::tops::next_top(n, offset, records, x, top);
-        let value = crate::tops::value_below(n, records, top, x + 1);
+        top = crate::tops::next_top(list, x, top);
+        let value = crate::tops::value_below(list, top, x + 1);
         least = numbers::arithmetic::lesser_of(least, value);
         greatest = numbers::arithmetic::greater_of(greatest, value);
-        sum += value as i64;
+        sum += i64::from(value);
     }
     Reported {
         count: b - a + 1,
@@ -67,5 +67,6 @@ pub fn report(
     if !is_part(n, a, b) {
         return Err(Refusal::Part);
     }
-    Ok(figures(n, offset, records, a, b))
+    let list = RecordList { n, offset, records };
+    Ok(figures(&list, a, b))
 }

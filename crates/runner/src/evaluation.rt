@@ -1,9 +1,10 @@
-// The evaluation of an accepted image, by its words in place.
+// The evaluation of a card at one X, by its image's words in place.
 ghost use Rattle.std.specs.Prelude.{◌≡◌, ℕ, ◌+◌, ◌^◌, ◌≤◌, ◌<◌, length};
-ghost use Rattle.image.specs.Inner.Evaluation.{Accepted, card_read, first_progress, group_at, word_place, next_place, cell_read, CellThere, CellAhead};
+ghost use Rattle.image.specs.Inner.Evaluation.{card_read, first_progress, group_at, word_place, next_place, cell_read, CellThere, CellAhead};
 ghost use Rattle.image.specs.Run.{group_value, result_of, run_card};
 ghost use Rattle.image.specs.Commands.{table_size};
 
+use crate::card::Card;
 use image::{Evaluated, Progress};
 
 // Where evaluation starts: behind the table command, with its offset and class 0.
@@ -70,28 +71,20 @@ fn read_cell(image: &[u8], x: usize, progress: Progress) -> Progress
     }
 }
 
-// The card's answer at X, from the words in place.
-#[tactic(auto, using(image::proofs::Laws::Evaluating::first_room, image::proofs::Laws::Evaluating::first_evaluating, image::proofs::Laws::Evaluating::cell_passed))]
-pub(crate) fn evaluate(image: &[u8], x: usize) -> Evaluated
-    requires { Accepted image.now }
-    ensures { result_of result ≡ run_card (card_read image.now) x }
-{
-    let mut progress = first_progress(image);
-    // Kept: each turn takes the variables of one group.
-    while 0 < progress.left {
-        progress = read_cell(image, x, progress);
+impl Card<'_> {
+    // The card's answer at X, from the words in place.
+    #[tactic(auto, using(image::proofs::Laws::Evaluating::first_room, image::proofs::Laws::Evaluating::first_evaluating, image::proofs::Laws::Evaluating::cell_passed))]
+    pub(crate) fn evaluate(&self, x: usize) -> Evaluated
+        ensures { result_of result ≡ run_card (card_read self.now.image.now) x }
+    {
+        let mut progress = first_progress(self.image);
+        // Kept: each turn takes the variables of one group.
+        while 0 < progress.left {
+            progress = read_cell(self.image, x, progress);
+        }
+        Evaluated {
+            value: progress.value,
+            words: progress.words,
+        }
     }
-    Evaluated {
-        value: progress.value,
-        words: progress.words,
-    }
-}
-
-// The number of variables of an accepted image.
-#[tactic(auto, using(image::proofs::Laws::Evaluating::first_room, image::proofs::Laws::Evaluating::variables_read))]
-pub(crate) fn variables(image: &[u8]) -> usize
-    requires { Accepted image.now }
-    ensures { result ≡ (card_read image.now).n }
-{
-    operands::read_one(image, 1)
 }

@@ -1,6 +1,7 @@
 // Run and Expand: an image is read whole, then evaluated by its words in place, at one X or from the top cell down at all of them.
 #![tactic(auto)]
 
+mod card;
 mod evaluation;
 mod expansion;
 
@@ -8,6 +9,7 @@ ghost use Rattle.std.specs.Prelude.{◌≡◌};
 ghost use Rattle.image.specs.Inner.Evaluation.{Accepted};
 ghost use Rattle.image.specs.Run.{Expands, run, ran};
 
+use card::Card;
 use image::Evaluated;
 use numbers::Refusal;
 
@@ -17,10 +19,11 @@ pub fn run_accepted(image: &[u8], x: usize) -> Result<Evaluated, Refusal>
     requires { Accepted image.now }
     ensures { ran result ≡ run image.now x }
 {
-    if (1 << evaluation::variables(image)) <= x {
+    let card = Card { image };
+    if (1 << card.variables()) <= x {
         return Err(Refusal::Index);
     }
-    Ok(evaluation::evaluate(image, x))
+    Ok(card.evaluate(x))
 }
 
 // Run: the image is checked whole, then X, then one word is read in each cell.
@@ -32,16 +35,15 @@ pub fn run(image: &[u8], x: usize) -> Result<Evaluated, Refusal>
     run_accepted(image, x)
 }
 
-// Expand of an image that is known to be accepted.
+// Expand of a card: its image is not checked again.
 #[tactic(auto, using(image::proofs::Laws::Evaluating::variables_size))]
-fn expand_accepted(image: &[u8], table: &mut [i32]) -> Result<(), Refusal>
-    requires { Accepted image.now }
-    ensures { Expands image.now table.old result table.new }
+fn expand_accepted(card: &Card, table: &mut [i32]) -> Result<(), Refusal>
+    ensures { Expands card.now.image.now table.old result table.new }
 {
-    if table.len() != 1 << evaluation::variables(image) {
+    if table.len() != 1 << card.variables() {
         return Err(Refusal::Length);
     }
-    expansion::fill(image, table);
+    card.fill(table);
     Ok(())
 }
 
@@ -52,5 +54,5 @@ pub fn expand(image: &[u8], table: &mut [i32]) -> Result<(), Refusal>
     ensures { Expands image.now table.old result table.new }
 {
     reader::check(image)?;
-    expand_accepted(image, table)
+    expand_accepted(&Card { image }, table)
 }

@@ -20,6 +20,7 @@ fn list_text(text: &[u8], out: &mut [u8; listing::TEXT_ROOM]) -> Result<usize, W
     match decimal::parse(text, &mut input) {
         Ok(length) => Ok(listing::list_input(&input[..length], out)),
         Err(ParseError::Wrong(wrong)) => Err(wrong),
+        // It never comes: the room is that of the longest input.
         Err(ParseError::TooShort) => Ok(0),
     }
 }

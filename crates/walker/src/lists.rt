@@ -1,11 +1,11 @@
-// Record lists: Walk's check of them.
+// Record lists: Walk's check of them, and what passed it.
 ghost use Rattle.std.specs.Prelude.{◌≡◌, true};
 ghost use Rattle.numbers.specs.Refusals.{answer_of};
 ghost use Rattle.numbers.specs.Lists.{numbers_from, every};
 ghost use Rattle.numbers.specs.Ranges.{is_variables};
-ghost use Rattle.diagram.specs.Walk.{record_fits, record_count, list_fits};
+ghost use Rattle.diagram.specs.Walk.{record_fits, record_count, list_fits, walk_value};
 ghost use Rattle.diagram.specs.Inner.Checks.{list_checks};
-ghost use Rattle.diagram.specs.Inner.Edges.{Recorded, EarlierPass};
+ghost use Rattle.diagram.specs.Inner.Edges.{Recorded, EarlierPass, Passing};
 
 use numbers::Refusal;
 
@@ -50,4 +50,23 @@ pub fn check_list(n: usize, offset: i32, records: &[i32]) -> Result<(), Refusal>
         return Err(Refusal::Records);
     }
     Ok(())
+}
+
+// A record list that passed Walk's check, with its number of variables and its offset.
+#[derive(Clone, Copy)]
+pub struct RecordList<'a> {
+    pub n: usize,
+    pub offset: i32,
+    pub records: &'a [i32],
+    ghost passing: { Passing n offset records.now },
+}
+
+impl RecordList<'_> {
+    // The offset plus the weights of the 1-edges on the path from the root.
+    pub(crate) fn value_at(&self, x: usize) -> i32
+        ensures { result ≡ walk_value self.now.n self.now.offset self.now.records.now x }
+    {
+        let root = crate::paths::root_of(self.offset, self.records);
+        crate::paths::walk_on(self.records, 0, self.n, root, x).value
+    }
 }

@@ -41,7 +41,5 @@ pub(crate) fn range_follows(records: &[i32], k: usize) -> bool
     requires { RangeReady records.now k }
     ensures { result ≡ range_follows records.now k }
 {
-    let range = range_from(records, k);
-    diagram::records::number_at(records, k, 4) == range.least
-        && diagram::records::number_at(records, k, 5) == range.greatest
+    range_at(records, k) == range_from(records, k)
 }

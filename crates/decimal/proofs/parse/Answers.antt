@@ -16,8 +16,8 @@ use Rattle.decimal.proofs.parse.Goals.{After-heading, In_ok-n}
 pub returns-then-input-lt-INPUT_ROOM : goal.returns-then-input-lt-INPUT_ROOM
 returns-then-input-lt-INPUT_ROOM c = let a = c.args in reads_short a.text.now a.input.now c.if-input-lt-INPUT_ROOM.true
 
-pub heading-requires : goal.heading-requires
-heading-requires c = start_place _
+pub invariant_of-start : goal.invariant_of-start
+invariant_of-start c = record { inside = start_place _ }
 
 -- n, as it was found.
 seen : (c : After-heading) {found : Option Heading} → c.heading.result ≡ found → HeadingSeen c.args.text.now 0 1 12 found
@@ -36,11 +36,14 @@ returns-in_err-n c =
     let same : Err (errors.Wrong c.in_err-n.field-0.0) ≡ passed_on (Err (record { line = 1; expected = Variables })) = grind (arith, common_steps) in
     subst (λ answer. Reads a.text.now a.input.now answer a.input.now) (sym (handed ∙ same)) law
 
+pub invariant_of-rest : goal.invariant_of-rest
+invariant_of-rest c = record { inside = (found (goal.at.invariant_of-rest c).In_ok-n).placed }
+
 pub parse_limit-requires : goal.parse_limit-requires
 unfolding input_room most_variables
 parse_limit-requires c =
     let n = found (goal.at.parse_limit-requires c).In_ok-n in
-    record { placed = n.placed; few = n.bounds.1; room = c.if-input-lt-INPUT_ROOM.false }
+    record { few = n.bounds.1; room = c.if-input-lt-INPUT_ROOM.false }
 
 pub returns-in_err-parse_limit : goal.returns-in_err-parse_limit
 unfolding passed_on

@@ -22,14 +22,14 @@ words text at = words_at text (record { at = at; line = 1 })
 most : (c : After-power-count) → c.power-count.result ≤ 4096
 most c = let e = c.power-count.ensures in let m = pow_mono {i = c.args.n} {j = 12} c.requires.few in omega arith
 
-pub read_values-requires-clause-count_in_bounds : goal.read_values-requires-clause-count_in_bounds
-read_values-requires-clause-count_in_bounds c = most (goal.at.read_values-requires-clause-count_in_bounds c).After-power-count
+pub read_values-requires : goal.read_values-requires
+read_values-requires c = most (goal.at.read_values-requires c).After-power-count
 
 -- Where they are not all there, the text goes wrong as they do.
 pub returns-in_err-read_values : goal.returns-in_err-read_values
 returns-in_err-read_values c =
     let a = c.args in
-    let law = wrong_answers _ a.input.now (table_wrong (last_line a.text.now) a.n a.limit (words a.text.now a.at) c.power-count.result c.power-count.ensures _ (sym c.in_err-read_values.ensures.answered)) in
+    let law = wrong_answers _ a.input.now (table_wrong (last_line a.rest.now.text.now) a.n a.limit (words a.rest.now.text.now a.rest.now.at) c.power-count.result c.power-count.ensures _ (sym c.in_err-read_values.ensures.answered)) in
     grind (arith, common_steps)
 
 -- The row is as long as before.
@@ -38,17 +38,17 @@ places c = c.read_values.auto.values ∙ length-replicate 4096 (pos 0)
 
 -- Where the values are all there, they are the row's front.
 module _ (c : In_ok-read_values) where
-  good : body_judged (values_read (last_line c.args.text.now) c.power-count.result (words c.args.text.now c.args.at)) ≡ Ok tt
+  good : body_judged (values_read (last_line c.args.rest.now.text.now) c.power-count.result (words c.args.rest.now.text.now c.args.rest.now.at)) ≡ Ok tt
   good = sym c.in_ok-read_values.ensures.answered
 
   abbrev table : Table
-  table = record { n = c.args.n; limit = c.args.limit; values = values_found c.power-count.result (words c.args.text.now c.args.at) }
+  table = record { n = c.args.n; limit = c.args.limit; values = values_found c.power-count.result (words c.args.rest.now.text.now c.args.rest.now.at) }
 
-  table_is : table_at c.args.text.now c.args.at c.args.n c.args.limit ≡ got table
-  table_is = table_good (last_line c.args.text.now) c.args.n c.args.limit (words c.args.text.now c.args.at) c.power-count.result c.power-count.ensures good
+  table_is : table_at c.args.rest.now.text.now c.args.rest.now.at c.args.n c.args.limit ≡ got table
+  table_is = table_good (last_line c.args.rest.now.text.now) c.args.n c.args.limit (words c.args.rest.now.text.now c.args.rest.now.at) c.power-count.result c.power-count.ensures good
 
   many : length table.values ≡ c.power-count.result
-  many = (good_values (last_line c.args.text.now) c.power-count.result (words c.args.text.now c.args.at) good).1
+  many = (good_values (last_line c.args.rest.now.text.now) c.power-count.result (words c.args.rest.now.text.now c.args.rest.now.at) good).1
 
   front : take c.power-count.result c.read_values.new.values ≡ table.values
   front = front_taken (replicate 4096 (pos 0)) table.values c.power-count.result c.read_values.ensures.left many

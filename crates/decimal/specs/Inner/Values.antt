@@ -5,7 +5,7 @@ use Rattle.decimal.specs.Words.{last_line}
 use Rattle.decimal.specs.Table.{Read, got, wrong, map_read, Table, values_read, limit_read, input_of, input_room, parsed_buffer, values_found}
 use Rattle.decimal.specs.declared.Position.{Position}
 use Rattle.decimal.specs.declared.Wrong.{Wrong}
-use Rattle.decimal.specs.Inner.Positions.{words_at, PositionIn}
+use Rattle.decimal.specs.Inner.Positions.{words_at}
 
 -- So many values from a place on, and then nothing more.
 abbrev pub values_at : List ℕ → Position → ℕ → Read (List ℤ)
@@ -45,15 +45,13 @@ pub record InputReady (n limit : ℕ) (values : List ℤ) (buffer : List ℕ) : 
   pub limit_byte : limit ≤ 255
   pub room : 2 + 4 * length values ≤ length buffer
 
--- n is read, up to a place on the first line, and the buffer holds every input.
-pub record LimitReady (text : List ℕ) (at n : ℕ) (buffer : List ℕ) : Type 0 where
-  pub placed : PositionIn text (record { at = at; line = 1 })
+-- n is read, and the buffer holds every input.
+pub record LimitReady (n : ℕ) (buffer : List ℕ) : Type 0 where
   pub few : n ≤ 12
   pub room : input_room ≤ length buffer
 
--- n and the limit are read, up to a place on the first line, and the buffer holds every input.
-pub record BodyReady (text : List ℕ) (at n limit : ℕ) (buffer : List ℕ) : Type 0 where
-  pub placed : PositionIn text (record { at = at; line = 1 })
+-- n and the limit are read, and the buffer holds every input.
+pub record BodyReady (n limit : ℕ) (buffer : List ℕ) : Type 0 where
   pub few : n ≤ 12
   pub limit_byte : limit ≤ 255
   pub room : input_room ≤ length buffer

@@ -26,7 +26,7 @@ use Rattle.reach.specs.Inner.NarrowCells.{narrowest_in, CountsReady}
 use Rattle.reach.specs.Inner.Counts.{reached_in}
 
 module _ (n : ℕ) (table : List ℤ) (a : Accepted n table) {count_row : List ℕ} (counted : count_row ≡ all_counts n table) where
-  count_is : (h : ℕ) → h < n → get_or count_row h 0 ≡ class_count n table h
+  pub count_is : (h : ℕ) → h < n → get_or count_row h 0 ≡ class_count n table h
   count_is h l = ap (λ row. get_or row h 0) counted ∙ count_at n table h (omega arith)
 
   -- The counts of an accepted table are ready.

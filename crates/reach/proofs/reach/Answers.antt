@@ -5,23 +5,22 @@ use mathlib.Core.Bool.{true}
 use mathlib.Core.List.{List, ◌++◌}
 use native.Mathlib.Numerals.{add-one}
 use native.Mathlib.Omega.{arith}
-use lib.ListN.{length, take, length-append}
+use lib.ListN.{length, take, drop, length-append}
 use lib.Seq.{length-take-le, take_at}
 use lib.Pow.{pow_pos}
 use mir.Facts.{Fits-of_lt}
 use Rattle.std.specs.Prelude.{Ok}
 use Rattle.std.proofs.lemmas.Grind.{common_steps}
 use Rattle.numbers.specs.Ranges.{is_limit, most_variables}
-use Rattle.blocks.specs.Rows.{cut_place, all_counts}
+use Rattle.blocks.specs.Rows.{cut_place}
 use Rattle.blocks.proofs.Laws.Cuts.{places_most}
-use Rattle.blocks.proofs.Laws.Places.{length_counts}
 use Rattle.diagram.specs.Accepted.{Accepted}
 use Rattle.numbers.specs.Refusals.{answer_of}
 use Rattle.cascade.proofs.Laws.Cells.{variables_most}
 use Rattle.reach.specs.Reach.{Reaches}
 use Rattle.reach.specs.declared.Reached.{Reached}
 use Rattle.reach.proofs.Laws.Checks.{call_refused, call_admits}
-use Rattle.reach.proofs.Laws.Reaching.{counts_ready, counts_reach, refused_reaches}
+use Rattle.reach.proofs.Laws.Reaching.{counts_reach, refused_reaches}
 use Rattle.reach.proofs.reach.Goals as goal
 use Rattle.reach.proofs.reach.Goals.{After-class_table, After-power-places, In_ok-check_call}
 
@@ -34,8 +33,11 @@ module _ (c : In_ok-check_call) where
   few : c.args.n ≤ 12
   few = variables_most c.args.n c.args.table.now admitted.0
 
-pub overflow_add-cuts : goal.overflow_add-cuts
-overflow_add-cuts c = Fits-of_lt (let f = few c in omega arith)
+pub overflow_add-n : goal.overflow_add-n
+overflow_add-n c = Fits-of_lt (let f = few c in omega arith)
+
+pub overflow_add-counts : goal.overflow_add-counts
+overflow_add-counts c = Fits-of_lt (let f = few (goal.at.overflow_add-counts c).In_ok-check_call in omega arith)
 
 pub power-places-requires : goal.power-places-requires
 power-places-requires c = let f = few c in omega arith
@@ -98,35 +100,48 @@ class_table-requires c =
       counts_len = length-take-le _ _ (few_counts p) ∙ add-one (n p);
     }
 
--- What the classing left in the row of the counts.
-module _ (c : After-class_table) where
-  abbrev left : List ℕ
-  left = c.class_table.new.counts
+-- The rows come back as long as they were lent, and are looked at.
+back : (k : ℕ) (row left : List ℕ) → k ≤ length row → length left ≡ length (take k row) → k ≤ length (left ++ drop k row)
+back k row left inside same = let l = length-take-le k row inside in rw length-append (omega arith)
 
-  counted : left ≡ all_counts c.args.n c.args.table.now
-  counted = c.class_table.ensures.all_classed.counted
+front : (k : ℕ) (row left : List ℕ) → k ≤ length row → length left ≡ length (take k row) → take k (left ++ drop k row) ≡ left
+front k row left inside same = take_at left (drop k row) k (same ∙ length-take-le k row inside)
 
-  kept : length left ≡ c.args.n + 1
-  kept = ap length counted ∙ length_counts c.args.n c.args.table.now ∙ sym (add-one c.args.n)
+pub slice_bounds-classes-end-2 : goal.slice_bounds-classes-end-2
+slice_bounds-classes-end-2 c = back _ _ _ (few_places (goal.at.slice_bounds-classes-end-2 c).After-power-places) c.class_table.auto.classes
 
-  module _ (rest : List ℕ) where
-    within : c.args.n + 1 ≤ length (left ++ rest)
-    within = let l = length-append left rest in let k = kept in omega arith
+pub slice_bounds-cuts-end : goal.slice_bounds-cuts-end
+slice_bounds-cuts-end c = sym (length-take-le _ _ (back _ _ _ (few_places (goal.at.slice_bounds-cuts-end c).After-power-places) c.class_table.auto.classes))
 
-    front : take (c.args.n + 1) (left ++ rest) ≡ left
-    front = take_at left rest (c.args.n + 1) kept
+pub slice_bounds-firsts-end-2 : goal.slice_bounds-firsts-end-2
+slice_bounds-firsts-end-2 c = back _ _ _ (few_places (goal.at.slice_bounds-firsts-end-2 c).After-power-places) c.class_table.auto.firsts
+
+pub slice_bounds-cuts-end-2 : goal.slice_bounds-cuts-end-2
+slice_bounds-cuts-end-2 c = sym (length-take-le _ _ (back _ _ _ (few_places (goal.at.slice_bounds-cuts-end-2 c).After-power-places) c.class_table.auto.firsts))
+
+pub overflow_add-counts-2 : goal.overflow_add-counts-2
+overflow_add-counts-2 c = Fits-of_lt (let f = few (goal.at.overflow_add-counts-2 c).In_ok-check_call in omega arith)
 
 pub slice_bounds-counts-end-2 : goal.slice_bounds-counts-end-2
-slice_bounds-counts-end-2 c = within c.before.before.before.before _
+slice_bounds-counts-end-2 c = back _ _ _ (few_counts (goal.at.slice_bounds-counts-end-2 c).After-power-places) c.class_table.auto.counts
 
-pub slice_bounds-reach_counts-end : goal.slice_bounds-reach_counts-end
-slice_bounds-reach_counts-end c = let k = (goal.at.slice_bounds-reach_counts-end c).After-class_table in sym (ap length (front k _) ∙ kept k)
+pub slice_bounds-cuts-end-3 : goal.slice_bounds-cuts-end-3
+slice_bounds-cuts-end-3 c = sym (length-take-le _ _ (back _ _ _ (few_counts (goal.at.slice_bounds-cuts-end-3 c).After-power-places) c.class_table.auto.counts))
 
-pub reach_counts-requires : goal.reach_counts-requires
-reach_counts-requires c =
-    let k = (goal.at.reach_counts-requires c).After-class_table in
-    let a = c.args in
-    counts_ready a.n a.table.now (admitted (goal.at.reach_counts-requires c).In_ok-check_call).0 (front k _ ∙ counted k)
+pub invariant_of-cuts : goal.invariant_of-cuts
+invariant_of-cuts c =
+    let p = (goal.at.invariant_of-cuts c).After-power-places in
+    let good = (admitted (goal.at.invariant_of-cuts c).In_ok-check_call).0 in
+    let left = c.class_table.auto in
+    let classed = c.class_table.ensures.all_classed in
+    record {
+      admitted = good;
+      classed = record {
+        numbered = front _ _ _ (few_places p) left.classes ∙ classed.numbered;
+        placed = front _ _ _ (few_places p) left.firsts ∙ classed.placed;
+        counted = front _ _ _ (few_counts p) left.counts ∙ classed.counted;
+      };
+    }
 
 -- ---- what is answered
 pub returns-in_err-check_call : goal.returns-in_err-check_call
@@ -139,7 +154,8 @@ returns-in_err-check_call c =
 pub returns : goal.returns
 returns c =
     let k = (goal.at.returns c).After-class_table in
+    let p = (goal.at.returns c).After-power-places in
     let a = c.args in
     let good = admitted (goal.at.returns c).In_ok-check_call in
-    subst⁻¹ (λ (r : Reached). Reaches a.n a.table.now a.limit (Ok r)) c.reach_counts.ensures
-    (counts_reach a.n a.table.now good.0 (front k _ ∙ counted k) a.limit good.1)
+    let counted = front _ _ _ (few_counts p) k.class_table.auto.counts ∙ k.class_table.ensures.all_classed.counted in
+    subst⁻¹ (λ (r : Reached). Reaches a.n a.table.now a.limit (Ok r)) c.reach_counts.ensures (counts_reach a.n a.table.now good.0 counted a.limit good.1)

@@ -2,9 +2,11 @@
 use Rattle.std.proofs.Common.{ℕ, ◌+◌, ◌-◌, ◌/◌, ◌%◌, ◌^◌, ◌≤◌, ◌<◌, min, arith}
 use Rattle.std.specs.Prelude.{◌≡◌, List, ℤ}
 use Rattle.std.proofs.Math.Path.{sym, ap}
-use Rattle.std.proofs.Common.{◌∙◌}
+use Rattle.std.proofs.Common.{◌∙◌, w32, of_z, to_z, to_z-of_z}
 use Rattle.std.proofs.Math.Nat.{div-eq_of_lt}
 use Rattle.std.proofs.Math.Decide.{dec_lt}
+use borrow.Author.Rules.{sfits_of}
+use Rattle.numbers.proofs.Laws.Bounds.{value_mag}
 use Rattle.diagram.specs.Walk.{walk_value}
 use Rattle.diagram.specs.Inner.Edges.{descend, root_of, Passing, PathReady}
 use Rattle.diagram.proofs.Laws.Checks.{variables_range}
@@ -34,6 +36,10 @@ module _ (n : ℕ) (offset : ℤ) (list : List ℤ) where
   pub top_ready : Passing n offset list → (x : ℕ) → PathReady list 0 (lowest_of n) (top_at n offset list x)
   unfolding top_at
   top_ready p x = ready_below list (lowest_of n) (n - lowest_of n) x (root_of offset list) (root_ready p)
+
+  -- The offset as the machine has it.
+  pub offset_told : Passing n offset list → to_z w32 (of_z w32 offset) ≡ offset
+  offset_told p = let m = value_mag offset p.start in to_z-of_z {w = w32} (sfits_of (omega arith))
 
   -- Neighbours share it but where a multiple of 8 begins.
   pub top_next : (x : ℕ) → x + 1 < 2 ^ n → ((x + 1) % 8 ≡ 0 → ⊥) → top_at n offset list x ≡ top_at n offset list (x + 1)

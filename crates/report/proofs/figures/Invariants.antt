@@ -14,4 +14,4 @@ pub record Gathered (n : ℕ) (offset : ℤ) (list : List ℤ) (a x : ℕ) (top 
   pub sums : sum ≡ exact_sum (values_from n offset list a x)
 
 abbrev pub invariant-loop-x : goal.invariant-loop-x
-invariant-loop-x l = Gathered l.n (l.offset) l.records l.a l.x l.top (l.least) (l.greatest) (l.sum)
+invariant-loop-x l = Gathered l.list.n l.list.offset l.list.records.now l.a l.x l.top l.least l.greatest l.sum

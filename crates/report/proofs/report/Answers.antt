@@ -43,8 +43,11 @@ returns-then-not-is_part c =
     let a = c.args in
     sym (report_outside a.n a.offset a.records.now a.a a.b (passing (goal.at.returns-then-not-is_part c).In_ok-check_list) (sym c.is_part.ensures ∙ c.if-not-is_part.true))
 
+pub invariant_of-list : goal.invariant_of-list
+invariant_of-list c = record { passing = rw (to_z-of_z {w = w32} c.ranges.offset) (passing (goal.at.invariant_of-list c).In_ok-check_list) }
+
 pub figures-requires : goal.figures-requires
-figures-requires c = rw (to_z-of_z {w = w32} c.ranges.offset) (passing (goal.at.figures-requires c).In_ok-check_list, part c)
+figures-requires c = part (goal.at.figures-requires c).Else-not-is_part
 
 pub returns : goal.returns
 unfolding reported answer_of

@@ -7,20 +7,20 @@ use Rattle.image.proofs.Laws.Running.{expand_room, expands_refused, expands_tabl
 use Rattle.runner.proofs.expand_accepted.Goals as goal
 
 pub overflow_shl-variables : goal.overflow_shl-variables
-overflow_shl-variables c = variables_narrow c.args.image.now c.requires c.variables.result c.variables.ensures
+overflow_shl-variables c = variables_narrow c.args.card.now.image.now c.args.card.now.accepted c.variables.result c.variables.ensures
 
 pub returns-then-table-variables : goal.returns-then-table-variables
 unfolding number
 returns-then-table-variables c =
-    let image = c.args.image.now in
+    let image = c.args.card.now.image.now in
     let table = c.args.table.now in
-    let size = variables_size image c.requires c.variables.result c.variables.ensures in
+    let size = variables_size image c.args.card.now.accepted c.variables.result c.variables.ensures in
     let other = c.if-table-variables.true in
-    expands_refused image table refusals.Length (expand_room image c.requires (length table) (omega arith))
+    expands_refused image table refusals.Length (expand_room image c.args.card.now.accepted (length table) (omega arith))
 
 pub returns : goal.returns
 returns c =
-    let image = c.args.image.now in
-    let size = variables_size image c.requires c.variables.result c.variables.ensures in
+    let image = c.args.card.now.image.now in
+    let size = variables_size image c.args.card.now.accepted c.variables.result c.variables.ensures in
     let same = c.if-table-variables.false in
-    expands_table image c.requires c.args.table.now c.fill.new.table (omega arith) c.fill.ensures
+    expands_table image c.args.card.now.accepted c.args.table.now c.fill.new.table (omega arith) c.fill.ensures

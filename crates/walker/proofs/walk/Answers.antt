@@ -39,12 +39,12 @@ returns-then-x-power c =
     let a = c.args in
     sym (walk_outside a.n a.offset a.records.now a.x (passing (goal.at.returns-then-x-power c).In_ok-check_list) (rw c.power.ensures at c.if-x-power.true))
 
-pub walk_value-requires : goal.walk_value-requires
-walk_value-requires c = rw (to_z-of_z {w = w32} c.ranges.offset) (passing (goal.at.walk_value-requires c).In_ok-check_list)
+pub invariant_of-list : goal.invariant_of-list
+invariant_of-list c = record { passing = rw (to_z-of_z {w = w32} c.ranges.offset) (passing (goal.at.invariant_of-list c).In_ok-check_list) }
 
 pub returns : goal.returns
 unfolding answer_of
 returns c =
     let a = c.args in
-    ap accepted (to_z-of_z {w = w32} (sfits_of c.walk_value.type_inv) ∙ c.walk_value.ensures ∙ ap (λ z. walk_value a.n z a.records.now a.x) (to_z-of_z {w = w32} c.ranges.offset))
+    ap accepted (to_z-of_z {w = w32} (sfits_of c.value_at.type_inv) ∙ c.value_at.ensures ∙ ap (λ z. walk_value a.n z a.records.now a.x) (to_z-of_z {w = w32} c.ranges.offset))
     ∙ sym (walk_inside a.n a.offset a.records.now a.x (passing (goal.at.returns c).In_ok-check_list) (rw c.power.ensures at c.if-x-power.false))

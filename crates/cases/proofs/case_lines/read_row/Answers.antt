@@ -30,7 +30,7 @@ loop-count-preserved c =
     let number = c.in-Ok.item.number in
     let back : to_z w32 (of_z w32 number) ≡ number = search rules in
     let value = subst (Seen a.line.now c.loop-count.place) c.in-Ok.is (seen (goal.at.loop-count-preserved c).After-next_item) in
-    rw back (next_value a.line.now _ _ a.row.now c.loop-count.invariant (omega arith) (le_refl _) value)
+    rw (c.from-place.ensures, back) (next_value a.line.now _ _ a.row.now c.loop-count.invariant (omega arith) (le_refl _) value)
 
 pub returns : goal.returns
 returns c =

@@ -1,5 +1,5 @@
 -- `counts::list_cuts` meets its contract. The loop's invariant: the cuts before h are listed.
-use Rattle.std.proofs.Common.{◌≡◌, ◌+◌, refl, sym, ◌∙◌, ap, add-one, set, arith}
+use Rattle.std.proofs.Common.{refl, sym, ◌∙◌, ap, add-one, set, arith}
 use Rattle.numbers.specs.Lists.{numbers_from, padded}
 use Rattle.reach.proofs.Laws.Counts.{list_next}
 use Rattle.reach.proofs.counts.list_cuts.Goals as goal
@@ -14,9 +14,3 @@ loop-h-preserved c =
     let l = c.loop-h-test.true in
     let p = c.requires in
     ap (λ cuts. set cuts h h) c.loop-h.invariant ∙ list_next h (omega arith) ∙ ap (λ k. padded 13 0 (numbers_from 0 k)) (sym (add-one h))
-
-pub returns : goal.returns
-returns c =
-    let l = c.loop-h-test.false in
-    let a = c.loop-h.auto in
-    c.loop-h.invariant ∙ ap (λ k. padded 13 0 (numbers_from 0 k)) (let e : c.loop-h.h ≡ c.args.last + 1 = omega arith in e ∙ add-one c.args.last)

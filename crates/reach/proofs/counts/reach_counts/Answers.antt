@@ -3,6 +3,7 @@ use Prim.Native.Nat.{◌≤◌}
 use native.Mathlib.Numerals.{add-one}
 use native.Mathlib.Omega.{arith}
 use mir.Facts.{Fits-of_lt}
+use Rattle.cascade.proofs.Laws.Cells.{variables_most}
 use Rattle.reach.proofs.Laws.Narrowest.{furthest_cut}
 use Rattle.reach.specs.Inner.Counts.{reached_in}
 use Rattle.reach.proofs.counts.reach_counts.Goals as goal
@@ -11,8 +12,9 @@ use Rattle.reach.proofs.counts.reach_counts.Goals.{After-furthest_cut-last}
 -- The furthest cut is one that a table can have.
 small : (c : After-furthest_cut-last) → c.furthest_cut-last.result ≤ 12
 small c =
-    let most : c.furthest_cut-last.result ≤ c.args.n = rw c.furthest_cut-last.ensures (furthest_cut _ _ _) in
-    let v = c.requires.variables in
+    let s = c.args.cuts.now in
+    let most : c.furthest_cut-last.result ≤ s.n = rw c.furthest_cut-last.ensures (furthest_cut _ _ _) in
+    let v = variables_most s.n s.table.now s.admitted in
     omega arith
 
 pub overflow_add-result : goal.overflow_add-result

@@ -16,7 +16,7 @@ first_wide address limit n (Some h) f = furthest_is address limit n h (let l = f
 
 pub returns : goal.returns
 returns c =
-    let address = narrowest_in c.args.counts.now in
+    let address = narrowest_in c.args.cuts.now.counts.now in
     c.unwrap_or.ensures
-    ∙ first_wide address c.args.limit c.args.n c.find.result
+    ∙ first_wide address c.args.limit c.args.cuts.now.n c.find.result
     (first_from_Range _ _ _ _ (λ k. c.args.limit < address k) (λ k. address k ≤ c.args.limit) c.find.ensures.ran (λ x q k. search (rules, tests)) (λ x q k. search (rules, tests)))

@@ -4,4 +4,4 @@ use Rattle.reach.specs.Inner.NarrowCells.{narrowest_in}
 use Rattle.reach.proofs.narrow_cells.least_limit.Given as goal
 
 abbrev pub invariant-loop-h : goal.invariant-loop-h
-invariant-loop-h l = l.least ≡ widest_above (narrowest_in l.counts) l.h
+invariant-loop-h l = l.least ≡ widest_above (narrowest_in l.cuts.counts.now) l.h

@@ -1,4 +1,4 @@
-// A table with the classes of all its cuts: what Build, Plan and Compile go by.
+// A table with the classes of all its cuts: what Build, Plan, Compile and Reach go by.
 ghost use Rattle.std.specs.Prelude.{◌≡◌, ◌≤◌};
 ghost use Rattle.blocks.specs.Classes.{class_count};
 ghost use Rattle.blocks.specs.Inner.Layout.{AllClassed};

@@ -15,6 +15,10 @@ fn difference(left: i32, right: i32) -> i64
 fn same_less(left: &[i32], constant: i64, right: &[i32]) -> bool
     ensures { result ≡ same (less «constant» left.now) right.now }
 {
+    // Of a block of one value nothing is left behind the first: half of all blocks, and no loop is begun for them.
+    if left.is_empty() {
+        return right.is_empty();
+    }
     left.len() == right.len()
         && left
             .iter()

@@ -4,13 +4,24 @@
 
 mod judging;
 
+ghost use Rattle.stdin.specs.Input.{Keeps};
+
+use std::io;
+
 // No less than the bytes of all cases.
 const KEPT: usize = 262144;
+
+// Reads to the end of the input and keeps its first bytes. Answers how many these are.
+fn read_cases(rt: &impl Input, buffer: &mut [u8; KEPT]) -> io::Result<usize>
+    ensures { Keeps 262144 buffer.new result }
+{
+    stdin::read_whole(rt, buffer)
+}
 
 #[tactic(auto, unfolding(stdin::specs::Input::KeptWithin))]
 fn main(rt: HostRuntime) {
     let mut buffer = [0u8; KEPT];
-    let Ok(count) = stdin::read_whole(&rt, &mut buffer) else {
+    let Ok(count) = read_cases(&rt, &mut buffer) else {
         let _ = eprintln!(rt; "checks: cannot read standard input");
         return;
     };

